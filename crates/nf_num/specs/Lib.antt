@@ -1,0 +1,4 @@
+pub mod Field
+pub mod Gcd
+pub mod Rational
+pub mod Sum
