@@ -1,0 +1,11 @@
+pub mod TextFacts
+pub mod NumeralFacts
+pub mod AmountFacts
+pub mod DigitFacts
+pub mod Fields
+pub mod Reduced
+pub mod Add
+pub mod Mul
+pub mod Order
+pub mod Recip
+pub mod Caller
