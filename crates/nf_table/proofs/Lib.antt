@@ -1,0 +1,6 @@
+pub mod CellFacts
+pub mod CutFacts
+pub mod HeaderFacts
+pub mod NameFacts
+pub mod RecordFacts
+pub mod RowFacts

@@ -1,0 +1,13 @@
+//! Tables of CSV text: a header and rows of as many cells.
+#![tactic(auto)]
+
+mod header;
+mod reading;
+mod records;
+mod table;
+
+pub use reading::read_table;
+pub use table::{Table, TableFault};
+
+#[cfg(test)]
+mod tests;
