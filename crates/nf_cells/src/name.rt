@@ -1,0 +1,27 @@
+//! Names of nodes, arcs and rows.
+ghost use Rattle.std.specs.Prelude.{◌≡◌, List, ℕ};
+ghost use Rattle.nf_cells.specs.Cells.{is_name_byte, is_name as is_name_of};
+
+/// The most bytes of a name.
+pub const MOST_NAME_BYTES: usize = 32;
+
+fn is_name_byte_at(byte: u8) -> bool
+    ensures { result ≡ is_name_byte byte }
+{
+    byte.is_ascii_alphanumeric() || byte == b'_' || byte == b' ' || byte == b'.' || byte == b'-'
+}
+
+/// Whether bytes are a name: 1 to 32 ASCII letters, digits, `_`, spaces, points and `-`.
+pub fn is_name(bytes: &[u8]) -> bool
+    ensures name { result ≡ is_name_of bytes.now }
+{
+    if bytes.is_empty() || MOST_NAME_BYTES < bytes.len() {
+        return false;
+    }
+    for byte in bytes {
+        if !is_name_byte_at(*byte) {
+            return false;
+        }
+    }
+    true
+}
