@@ -1,0 +1,4 @@
+pub mod Program
+pub mod Certificate
+pub mod Failure
+pub mod Problem
