@@ -1,0 +1,110 @@
+-- The operations of the loops of a check arise in the rows that count in a check.
+use Rattle.std.proofs.Common.{◌≡◌, ℕ, ◌<◌, ◌-◌, List, length, map, refl, sym, ◌∙◌, ap, subst, arith, ◌⊎◌, inl, inr, false}
+use Rattle.std.specs.List.{All}
+use Rattle.std.proofs.lemmas.List.{length-map}
+use Rattle.nf_num.specs.Rational.{ℚ}
+use Rattle.nf_frac.specs.declared.Passed.{Passed}
+use Rattle.nf_frac.specs.declared.Op.TheVariants.{Sub}
+use Rattle.nf_model.specs.Program.{Entry, LinearProgram, column, row, entry_at, coefficient, at}
+use Rattle.nf_model.specs.Problem.{RiseBetween, IsProblem}
+use Rattle.nf_model.specs.Certificate.{combined}
+use Rattle.nf_prob.specs.declared.stored.Entry as stored
+use Rattle.nf_prob.specs.declared.stored.RowEntry.{RowEntry}
+use Rattle.nf_prob.specs.Numbers.{entry_of, row_list}
+use Rattle.nf_prob.specs.Stored.{stored_entry, row_entry}
+use Rattle.nf_frac.specs.Range.{Passes}
+use Rattle.nf_prob.specs.Terms.{PassesIn, Is}
+use Rattle.nf_prob.specs.Terms.Term.{Product}
+use Rattle.nf_prob.specs.Rows.{product_terms, remainder_terms}
+use Rattle.nf_prob.specs.Arising.{BestTerms, RowTerms, CostTerms, TotalTerms, cost_row}
+use Rattle.nf_prob.specs.Arising.BestTerms.{rest, reduced_cost, cost}
+use Rattle.nf_prob.proofs.Part.{IsPartOf, same_term}
+use Rattle.nf_prob.proofs.Laws.{carried, wider, remainder_passed, products_of_remainder}
+use Rattle.nf_prob.proofs.ColumnSums.{column_rises, rise_value, rise_apart, stored_is, weight_taken, value_taken}
+use Rattle.nf_prob.proofs.Entries.{rise_below}
+use Rattle.nf_prob.proofs.RowSums.{all_rise, numbers_rise, row_list_stands, coefficient_taken, number_taken}
+
+-- ---- a row's loop
+less_equal_more : (j k : ℕ) → (j < k) ⊎ ((j ≡ k) ⊎ (k < j))
+less_equal_more j k = grind arith
+
+row_part : (p : LinearProgram) (x : List ℚ) (i : ℕ) (es : List RowEntry) → IsProblem p → es ≡ row_list p i → IsPartOf (product_terms (length es) (coefficient_taken es) (number_taken x es)) (product_terms (length p.columns) (coefficient p i) (at x))
+row_part p x i es q same = subst (λ (l : List RowEntry). IsPartOf (product_terms (length l) (coefficient_taken l) (number_taken x l)) (product_terms (length p.columns) (coefficient p i) (at x))) (sym same) (record {
+  place = λ k. (row_entry (row_list p i) k).column - 1;
+  within = λ k h. let s = row_list_stands p i k q h in omega (arith, s.from, s.below);
+  apart = λ j k a b e. apart j k a b e (less_equal_more j k);
+  turned = false;
+  term = λ k h. same_term _ _ (ap (λ v. Product v (at x ((row_entry (row_list p i) k).column - 1))) (sym (row_list_stands p i k q h).value));
+})
+  where
+    apart : (j k : ℕ) → j < length (row_list p i) → k < length (row_list p i) → (row_entry (row_list p i) j).column - 1 ≡ (row_entry (row_list p i) k).column - 1 → (j < k) ⊎ ((j ≡ k) ⊎ (k < j)) → j ≡ k
+    apart j k a b e (inl h) =
+        let s = row_list_stands p i j q a in
+        let rises : (row_entry (row_list p i) j).column < (row_entry (row_list p i) k).column = numbers_rise 1 i p.columns (all_rise p q) j k h b in
+        absurd (omega (arith, s.from, rises, e))
+    apart j k a b e (inr (inl h)) = h
+    apart j k a b e (inr (inr h)) =
+        let s = row_list_stands p i k q b in
+        let rises : (row_entry (row_list p i) k).column < (row_entry (row_list p i) j).column = numbers_rise 1 i p.columns (all_rise p q) k j h a in
+        absurd (omega (arith, s.from, rises, e))
+
+pub row_passed : (p : LinearProgram) (x : List ℚ) (i : ℕ) (es : List RowEntry) (c : Passed) → IsProblem p → i < length p.rows → es ≡ row_list p i → PassesIn (Is (product_terms (length es) (coefficient_taken es) (number_taken x es))) c → PassesIn (RowTerms p x) c
+row_passed p x i es c q h same =
+    carried (Is (product_terms (length es) (coefficient_taken es) (number_taken x es))) (RowTerms p x) c
+    (λ part e. (product_terms (length p.columns) (coefficient p i) (at x), subst (λ t. IsPartOf t (product_terms (length p.columns) (coefficient p i) (at x))) (sym e) (row_part p x i es q same), (i, h, refl)))
+
+-- ---- a column's loop
+column_part : (p : LinearProgram) (y : List ℚ) (j : ℕ) (es : List stored.Entry) → IsProblem p → j < length p.columns → map entry_of es ≡ (column p j).entries → All (λ e. 0 < e.row) es → IsPartOf (product_terms (length es) (weight_taken y es) (value_taken es)) (product_terms (length p.rows) (at y) (λ i. coefficient p i j))
+column_part p y j es q h same positive = record {
+  place = λ k. (stored_entry es k).row - 1;
+  within = λ k b. subst (λ (e : Entry). e.row < length p.rows) (stored_is es k b) (rise_below 0 (length p.rows) (map entry_of es) k _ rise (inside k b));
+  apart = λ k l a b e. rise_apart 0 (length p.rows) (map entry_of es) k l rise (inside k a) (inside l b) (ap (λ (d : Entry). d.row) (stored_is es k a) ∙ e ∙ sym (ap (λ (d : Entry). d.row) (stored_is es l b)));
+  turned = false;
+  term = λ k b. same_term _ _ (ap (λ v. Product (at y ((stored_entry es k).row - 1)) v) (value k b));
+}
+  where
+    rise : RiseBetween 0 (length p.rows) (map entry_of es)
+    rise = subst (RiseBetween 0 (length p.rows)) (sym same) (column_rises p j q h)
+
+    inside : (k : ℕ) → k < length es → k < length (map entry_of es)
+    inside k b = omega (arith, b, length-map es entry_of)
+
+    value : (k : ℕ) → k < length es → entry_at (column p j).entries ((stored_entry es k).row - 1) ≡ (stored_entry es k).value
+    value k b =
+        ap (λ (l : List Entry). entry_at l ((stored_entry es k).row - 1)) (sym same)
+        ∙ ap (λ (d : Entry). entry_at (map entry_of es) d.row) (sym (stored_is es k b))
+        ∙ rise_value 0 (length p.rows) (map entry_of es) k rise (inside k b)
+        ∙ ap (λ (d : Entry). d.value) (stored_is es k b)
+
+products_in_cost : (p : LinearProgram) (y : List ℚ) (c : Passed) (j : ℕ) → j < length p.columns → PassesIn (Is (product_terms (length p.rows) (at y) (λ i. coefficient p i j))) c → PassesIn (CostTerms p y) c
+products_in_cost p y c j h =
+    carried (Is (product_terms (length p.rows) (at y) (λ i. coefficient p i j))) (CostTerms p y) c
+    (λ part e. (cost_row p y j, subst (λ t. IsPartOf t (cost_row p y j)) (sym e) (products_of_remainder (column p j).cost (length p.rows) (at y) (λ i. coefficient p i j)), (j, h, refl)))
+
+pub column_passed : (p : LinearProgram) (y : List ℚ) (j : ℕ) (es : List stored.Entry) (c : Passed) → IsProblem p → j < length p.columns → map entry_of es ≡ (column p j).entries → All (λ e. 0 < e.row) es → PassesIn (Is (product_terms (length es) (weight_taken y es) (value_taken es))) c → PassesIn (CostTerms p y) c
+column_passed p y j es c q h same positive a =
+    products_in_cost p y c j h
+    (carried (Is (product_terms (length es) (weight_taken y es) (value_taken es))) (Is (product_terms (length p.rows) (at y) (λ i. coefficient p i j))) c
+    (λ part e. (product_terms (length p.rows) (at y) (λ i. coefficient p i j), subst (λ t. IsPartOf t (product_terms (length p.rows) (at y) (λ i. coefficient p i j))) (sym e) (column_part p y j es q h same positive), refl)) a)
+
+-- the cost less the products of its column
+pub cost_passed : (p : LinearProgram) (y : List ℚ) (j : ℕ) (a b : ℚ) (c : Passed) → j < length p.columns → a ≡ (column p j).cost → b ≡ combined p y j → (c ≡ record { op = Sub; left = a; right = b }) × Passes Sub a b → PassesIn (CostTerms p y) c
+cost_passed p y j a b c h e d is =
+    wider (Is (cost_row p y j)) (CostTerms p y) c (λ t s. (j, h, s))
+    (remainder_passed (column p j).cost (length p.rows) (at y) (λ i. coefficient p i j) a b c e d is.0 (subst (λ (z : Passed). Passes z.op z.left z.right) (sym is.0) is.1))
+
+-- the total's products, over as many columns as there are
+pub total_passed : (p : LinearProgram) (x : List ℚ) (n : ℕ) (c : Passed) → n ≡ length p.columns → PassesIn (Is (product_terms n (λ j. (column p j).cost) (at x))) c → PassesIn (TotalTerms p x) c
+total_passed p x n c e = subst (λ m. PassesIn (Is (product_terms m (λ j. (column p j).cost) (at x))) c) e
+
+-- ---- into the rows of a check
+pub rest_in_check : (p : LinearProgram) (x y : List ℚ) (c : Passed) → PassesIn (RowTerms p x) c → PassesIn (BestTerms p x y) c
+rest_in_check p x y c =
+    carried (RowTerms p x) (BestTerms p x y) c
+    (λ part w. (remainder_terms (row p w.0).right (length p.columns) (coefficient p w.0) (at x), subst (λ t. IsPartOf t (remainder_terms (row p w.0).right (length p.columns) (coefficient p w.0) (at x))) (sym w.2) (products_of_remainder (row p w.0).right (length p.columns) (coefficient p w.0) (at x)), rest w.0 w.1))
+
+pub cost_in_check : (p : LinearProgram) (x y : List ℚ) (c : Passed) → PassesIn (CostTerms p y) c → PassesIn (BestTerms p x y) c
+cost_in_check p x y c = wider (CostTerms p y) (BestTerms p x y) c (λ t w. subst (BestTerms p x y) (sym w.2) (reduced_cost w.0 w.1))
+
+pub total_in_check : (p : LinearProgram) (x y : List ℚ) (c : Passed) → PassesIn (TotalTerms p x) c → PassesIn (BestTerms p x y) c
+total_in_check p x y c = wider (TotalTerms p x) (BestTerms p x y) c (λ t w. subst (BestTerms p x y) (sym w) cost)

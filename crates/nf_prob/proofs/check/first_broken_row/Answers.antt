@@ -1,0 +1,8 @@
+use Rattle.std.proofs.Common.{arith, ◌<◌, length}
+use Rattle.nf_prob.proofs.Answered.{first_here}
+use Rattle.nf_prob.proofs.check.first_broken_row.Goals as goal
+
+pub returns-then-not-holds-clause-value : goal.returns-then-not-holds-clause-value
+returns-then-not-holds-clause-value g c =
+    let within : c.loop-i.i < length c.args.p.now.rows = omega arith in
+    first_here _ _ c.loop-i.i _ within c.in_ok-holds.ensures.value c.if-not-holds.true c.loop-i.invariant

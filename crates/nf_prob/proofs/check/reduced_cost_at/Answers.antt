@@ -1,0 +1,6 @@
+use Rattle.nf_prob.proofs.Arises.{cost_passed}
+use Rattle.nf_prob.proofs.Up.{handed_on}
+use Rattle.nf_prob.proofs.check.reduced_cost_at.Goals as goal
+
+pub returns-in_err-d-clause-passed : goal.returns-in_err-d-clause-passed
+returns-in_err-d-clause-passed g c = handed_on c.from_residual-in_err-d.result _ _ c.from_residual-in_err-d.ensures.1 (cost_passed c.args.p.now c.args.y.now c.args.j _ _ _ c.requires.within c.cost_at.ensures c.in_ok-combination.ensures.value c.in_err-d.ensures.passed)

@@ -1,0 +1,12 @@
+pub mod Terms
+pub mod Rows
+pub mod Steps
+pub mod Numbers
+pub mod Building
+pub mod Lists
+pub mod Stored
+pub mod Finished
+pub mod Unfinished
+pub mod Coding
+pub mod Arising
+pub mod Verdict

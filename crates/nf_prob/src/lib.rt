@@ -1,0 +1,23 @@
+//! The problem of a network with side rows, and the exact check of a certificate against it.
+#![tactic(auto)]
+
+mod builder;
+mod cert;
+mod check;
+mod fits;
+mod fracs;
+mod lists;
+mod problem;
+mod stored;
+mod sums;
+#[cfg(test)]
+mod tests;
+
+pub use builder::ProblemBuilder;
+pub use cert::{Cert, Checked, Why};
+pub use check::verify;
+pub use fracs::Fracs;
+pub use nf_model::RowKind;
+pub use problem::Problem;
+pub use stored::{Entry, RowEntry};
+pub use sums::{add_product, sum_products};
