@@ -1,0 +1,10 @@
+pub mod PairFacts
+pub mod NodeFacts
+pub mod ReadFacts
+pub mod FormFacts
+pub mod ArcFacts
+pub mod SupplyFacts
+pub mod AmountFacts
+pub mod MakingFacts
+pub mod NetworkFacts
+pub mod Examples

@@ -1,0 +1,10 @@
+pub mod Data
+pub mod Ends
+pub mod Form
+pub mod Inside
+pub mod Lent
+pub mod Made
+pub mod Network
+pub mod Nodes
+pub mod Pass
+pub mod Rows
