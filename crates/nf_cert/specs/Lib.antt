@@ -1,0 +1,6 @@
+pub mod First
+pub mod Inside
+pub mod Items
+pub mod Reading
+pub mod Rows
+pub mod Steps

@@ -1,0 +1,47 @@
+//! Reading a certificate's table.
+ghost use Rattle.std.specs.Prelude.{◌≡◌, ◌⊎◌, ◌<◌, ◌+◌, ◌-◌, ◌^◌, Err, IfOk, length};
+ghost use Rattle.nf_prob.specs.Verdict.{HasLengths};
+ghost use Rattle.nf_cert.specs.Reading.{cert_read};
+ghost use Rattle.nf_cert.specs.Steps.{HasSizes};
+
+use crate::columns::Columns;
+use crate::fault::CertFault;
+use crate::rows::read_rows;
+use nf_prob::{Cert, Problem};
+use nf_table::Table;
+use std::alloc::Global;
+
+/// The certificate that a table gives for a problem.
+///
+/// The table has the columns `_ITEM_`, `_NUMBER_` and `_VALUE_`, in any order and any case. Its rows
+/// are, in this order, `VERDICT,1,OPTIMAL`, then `COL,j,value` for each column of the problem from 1,
+/// then `ROW,i,dual` for each of its rows from 1. Spaces at both ends of a cell do not count.
+///
+/// `NoColumn` is the first of the three columns that is not there. Then the first row at fault is
+/// told: `UnknownRow` where it is not the one that is due, or its verdict is not `OPTIMAL`, or it is
+/// one too many; `Number` where it is due, but its value is no fraction's text; `MissingRow` where the
+/// table ends before it. `NoMemory` where memory is refused.
+pub fn read_cert(alloc: Global, table: &Table, p: &Problem) -> Result<Cert, CertFault>
+    ensures answer { (result ≡ Err CertFault.NoMemory) ⊎ (result ≡ cert_read table.now (length p.now.columns) (length p.now.rows)) }
+    ensures lengths { IfOk result (HasLengths p.now) }
+{
+    read_counted(alloc, table, p.columns(), p.rows())
+}
+
+// The certificate that a table gives for a problem of so many columns and rows.
+pub(crate) fn read_counted(
+    alloc: Global,
+    table: &Table,
+    columns: u32,
+    rows: u32,
+) -> Result<Cert, CertFault>
+    requires few { columns + rows < 2 ^ 32 - 2 }
+    ensures answer { (result ≡ Err CertFault.NoMemory) ⊎ (result ≡ cert_read table.now columns rows) }
+    ensures sizes { IfOk result (HasSizes columns rows) }
+{
+    let at = match Columns::find(alloc, table) {
+        Ok(at) => at,
+        Err(fault) => return Err(fault),
+    };
+    read_rows(alloc, table, at, columns, rows)
+}
