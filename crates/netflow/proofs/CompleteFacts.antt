@@ -1,0 +1,192 @@
+-- What a call takes in is told in one way, so a valid certificate is not refused.
+use Rattle.std.proofs.Common.{◌≡◌, ◌∙◌, ◌<◌, ◌≤◌, ◌++◌, ◌⊎◌, Bool, true, false, ℕ, List, Option, Some, None, Result, Ok, Err, if◌then◌else◌, inl, inr, length, arith, append-nil, length-append, refl, ap}
+use Rattle.std.proofs.lemmas.Bool.Decides.{nat_tests}
+use Rattle.std.specs.Bool.{nat_lt}
+use Rattle.std.specs.Io.KnownBytes.{Consumes, IsAtEnd}
+use Rattle.nf_num.specs.Rational.{ℚ}
+use Rattle.nf_io.specs.Causes.{Rose}
+use Rattle.nf_io.specs.Held.{Held, HasName, HasTooMany, LacksName, found, most_bytes}
+use Rattle.nf_table.specs.Grid.{Grid}
+use Rattle.nf_table.specs.Reading.{table_read}
+use Rattle.nf_model.specs.Program.{LinearProgram}
+use Rattle.nf_model.specs.Certificate.{IsValidBest}
+use Rattle.nf_prob.specs.declared.cert.Cert.{Cert}
+use Rattle.nf_prob.specs.declared.cert.Cert.TheVariants as cert
+use Rattle.nf_prob.specs.declared.cert.Checked.TheVariants as checked
+use Rattle.nf_prob.specs.declared.cert.Why.{Why}
+use Rattle.nf_prob.specs.Verdict.{IsAnswer}
+use Rattle.nf_arcs.specs.Network.{network_read}
+use Rattle.nf_cert.specs.Reading.{cert_read}
+use Rattle.netflow.specs.declared.sets.SetName.{SetName}
+use Rattle.netflow.specs.declared.sets.SetName.TheVariants as set
+use Rattle.netflow.specs.declared.refusal.Refusal.{Refusal}
+use Rattle.netflow.specs.declared.refusal.Refusal.TheVariants as refusal
+use Rattle.netflow.specs.declared.status.Status.{Status}
+use Rattle.netflow.specs.declared.status.Status.TheVariants as status
+use Rattle.netflow.specs.Data.{Sets, IsTable, bytes_of}
+use Rattle.netflow.specs.Headline.{AcceptsTheValid, Claims, PlanIsProved}
+use Rattle.netflow.specs.Outcome.{AreHeld, Call, Comes, FetchesSets, Input, PosesProblem, ReadsCertificate, ReadsProgram, Refuses, name_of}
+use Rattle.netflow.specs.Program.{IsNoProgram, Program, most_program}
+use Rattle.netflow.proofs.ProgramFacts.{one-program, program-short}
+
+-- the headline
+pub plan-proved : (c : Call) → Comes c status.Finished → PlanIsProved c
+plan-proved c (cost, a, l) = record { problem = a.problem; flows = a.flows; duals = a.duals; reads = a.reads; best = a.best; listed = rw a.total at l }
+
+-- a told source gives the front of its text, and at its end the whole
+front-consumed : (rest : Option (List ℕ)) (text taken : List ℕ) → Consumes (Some text) rest taken → length taken ≤ length text
+front-consumed None text taken h = absurd h
+front-consumed (Some more) text taken h = rw h (simp length-append (omega arith))
+
+all-consumed : (rest : Option (List ℕ)) (text taken : List ℕ) → Consumes (Some text) rest taken → IsAtEnd rest → text ≡ taken
+all-consumed None text taken h k = absurd h
+all-consumed (Some more) text taken h k = h ∙ (ap (λ m. taken ++ m) k ∙ append-nil taken)
+
+-- a told library has one answer for a name
+one-some : (o : Option (List ℕ)) (b d : List ℕ) → o ≡ Some b → o ≡ Some d → b ≡ d
+one-some o b d h k = cc
+
+no-some : (o : Option (List ℕ)) (b : List ℕ) → o ≡ Some b → o ≡ None → ⊥
+no-some o b h k = cc (h, k)
+
+bytes-same : (m : Held) (n b d : List ℕ) → HasName (Some m) n b → HasName (Some m) n d → b ≡ d
+bytes-same m n b d h k = one-some (found m n) b d h k
+
+never-lacks : (m : Held) (n b : List ℕ) → HasName (Some m) n b → LacksName (Some m) n → ⊥
+never-lacks m n b h k = no-some (found m n) b h k
+
+never-many : (m : Held) (n b : List ℕ) → HasName (Some m) n b → length b ≤ most_bytes → HasTooMany (Some m) n → ⊥
+never-many m n b h short (bytes, is, many) =
+    let same = ap length (one-some (found m n) b bytes h is) in
+    omega (arith, short, many, same)
+
+-- the text of a table is not too long
+if-ok : {A E : Type 0} (b : Bool) (e : E) (r : Result A E) (x : A) → (if b then Err e else r) ≡ Ok x → b ≡ false
+if-ok true e r x h = cc h
+if-ok false e r x h = refl
+
+not-longer : (m n : ℕ) → nat_lt m n ≡ false → n ≤ m
+not-longer m n h = grind (arith, nat_tests)
+
+table-short : (bytes : List ℕ) (g : Grid) → table_read bytes ≡ Ok g → length bytes ≤ most_bytes
+table-short bytes g h = not-longer most_bytes (length bytes) (if-ok (nat_lt most_bytes (length bytes)) _ _ g h)
+
+-- ---- what a call takes in is what its source and library tell
+has-set : (held : Option Held) (p : Program) (sets : Sets) → AreHeld held p sets → (s : SetName) → HasName held (name_of p s) (bytes_of sets s)
+has-set held p sets h set.Arcdata = h.arcdata
+has-set held p sets h set.Nodedata = h.nodedata
+has-set held p sets h set.Certdata = h.certdata
+
+program-same : (i : Input) (problem : LinearProgram) (certificate : Cert) (k : Claims i problem certificate) (q : Program) → ReadsProgram i q → q ≡ k.program
+program-same i problem certificate k q h =
+    let t : k.text ≡ h.text = all-consumed i.rest k.text h.text (rw k.told at h.taken) h.ended in
+    one-program h.text q k.program h.spelled (rw t at k.spelled)
+
+name-same : (i : Input) (problem : LinearProgram) (certificate : Cert) (k : Claims i problem certificate) (q : Program) → ReadsProgram i q
+    → (s : SetName) → HasName i.held (name_of q s) (bytes_of k.sets s)
+name-same i problem certificate k q h s = rw (program-same i problem certificate k q h) (has-set i.held k.program k.sets k.holds s)
+
+sets-same : (i : Input) (problem : LinearProgram) (certificate : Cert) (k : Claims i problem certificate) (sets : Sets) → FetchesSets i sets
+    → (s : SetName) → bytes_of sets s ≡ bytes_of k.sets s
+sets-same i problem certificate k sets h s =
+    bytes-same k.library (name_of h.program s) _ _ (rw k.tells at (has-set i.held h.program sets h.held s)) (rw k.tells at (name-same i problem certificate k h.program h.reads s))
+
+-- each set is a table
+has-table : (i : Input) (problem : LinearProgram) (certificate : Cert) (k : Claims i problem certificate) (s : SetName) → (g : Grid) × IsTable (bytes_of k.sets s) g
+has-table i problem certificate k set.Arcdata = (k.posed.arcs, k.posed.arcs_read)
+has-table i problem certificate k set.Nodedata = (k.posed.nodes, k.posed.nodes_read)
+has-table i problem certificate k set.Certdata = (k.claimed.table, k.claimed.table_is)
+
+-- two readings of the same bytes
+read-twice : {G E : Type 0} (f : List ℕ → Result G E) (a b : List ℕ) (g h : G) → a ≡ b → f a ≡ Ok g → f b ≡ Ok h → g ≡ h
+read-twice f a b g h e x y = cc
+
+never-both : {G E : Type 0} (f : List ℕ → Result G E) (a b : List ℕ) (g : E) (h : G) → a ≡ b → f a ≡ Err g → f b ≡ Ok h → ⊥
+never-both f a b g h e x y = cc (e, x, y)
+
+posed-twice : {E : Type 0} (f : Grid → Grid → Result LinearProgram E) (a b c d : Grid) (p q : LinearProgram) → a ≡ c → b ≡ d → f a b ≡ Ok p → f c d ≡ Ok q → p ≡ q
+posed-twice f a b c d p q e g x y = cc
+
+never-posed : {E : Type 0} (f : Grid → Grid → Result LinearProgram E) (a b c d : Grid) (x : E) (q : LinearProgram) → a ≡ c → b ≡ d → f a b ≡ Err x → f c d ≡ Ok q → ⊥
+never-posed f a b c d x q e g h k = cc (e, g, h, k)
+
+claimed-twice : {E : Type 0} (f : Grid → LinearProgram → Result Cert E) (a b : Grid) (p q : LinearProgram) (x y : Cert) → a ≡ b → p ≡ q → f a p ≡ Ok x → f b q ≡ Ok y → x ≡ y
+claimed-twice f a b p q x y e g h k = cc
+
+never-claimed : {E : Type 0} (f : Grid → LinearProgram → Result Cert E) (a b : Grid) (p q : LinearProgram) (x : E) (y : Cert) → a ≡ b → p ≡ q → f a p ≡ Err x → f b q ≡ Ok y → ⊥
+never-claimed f a b p q x y e g h k = cc (e, g, h, k)
+
+problem-same : (i : Input) (problem : LinearProgram) (certificate : Cert) (k : Claims i problem certificate) (sets : Sets) (q : LinearProgram) → PosesProblem i sets q → q ≡ problem
+problem-same i problem certificate k sets q h =
+    let same = sets-same i problem certificate k sets h.fetches in
+    posed-twice network_read h.posed.arcs h.posed.nodes k.posed.arcs k.posed.nodes q problem
+    (read-twice table_read _ _ _ _ (same set.Arcdata) h.posed.arcs_read k.posed.arcs_read)
+    (read-twice table_read _ _ _ _ (same set.Nodedata) h.posed.nodes_read k.posed.nodes_read)
+    h.posed.posed k.posed.posed
+
+certificate-same : (i : Input) (problem : LinearProgram) (certificate : Cert) (k : Claims i problem certificate) (q : LinearProgram) (x : Cert) → ReadsCertificate i q x → x ≡ certificate
+certificate-same i problem certificate k q x h =
+    let same = sets-same i problem certificate k h.sets h.poses.fetches in
+    claimed-twice (λ t p. cert_read t (length p.columns) (length p.rows)) h.claimed.table k.claimed.table q problem x certificate
+    (read-twice table_read _ _ _ _ (same set.Certdata) h.claimed.table_is k.claimed.table_is)
+    (problem-same i problem certificate k h.sets q h.poses) h.claimed.claimed k.claimed.claimed
+
+not-valid : (p q : LinearProgram) (c : Cert) (flows duals : List ℚ) (w : Why) → q ≡ p → c ≡ cert.Best flows duals → IsValidBest p flows duals → IsAnswer q c (checked.No w) → ⊥
+not-valid p q c flows duals w e f h k = (rw (e, f) at k).0 h
+
+-- the one refusal of a valid certificate
+abbrev IsRange : Refusal → Type 0
+IsRange (refusal.Range passed) = Unit {0}
+IsRange _ = ⊥
+
+no-text : (i : Input) (problem : LinearProgram) (certificate : Cert) (k : Claims i problem certificate) (text : List ℕ) → Consumes i.left i.rest text
+    → (most_program < length text) ⊎ (IsAtEnd i.rest × IsNoProgram text) → ⊥
+no-text i problem certificate k text h (inl long) =
+    let within = front-consumed i.rest k.text text (rw k.told at h) in
+    omega (arith, long, within, program-short k.text k.program k.spelled)
+no-text i problem certificate k text h (inr (ended, none)) =
+    none k.program (rw (all-consumed i.rest k.text text (rw k.told at h) ended) at k.spelled)
+
+refused-range : (i : Input) (problem : LinearProgram) (flows duals : List ℚ) (k : Claims i problem (cert.Best flows duals)) → IsValidBest problem flows duals
+    → (Rose i.source_faults i.source_faults_after → ⊥) → (Rose i.fetch_faults i.fetch_faults_after → ⊥) → (r : Refusal) → Refuses i r → IsRange r
+refused-range i problem flows duals k v s l refusal.Usage h = h k.words
+refused-range i problem flows duals k v s l refusal.NoProgram (words, text, taken, why) = no-text i problem _ k text taken why
+refused-range i problem flows duals k v s l refusal.ReadFault (words, inl rose) = s rose
+refused-range i problem flows duals k v s l refusal.ReadFault (words, inr (p, reads, rose)) = l rose
+refused-range i problem flows duals k v s l (refusal.Absent name) (p, set, reads, before, is, lacks, rose) =
+    never-lacks k.library (name_of p set) _ (rw k.tells at (name-same i problem _ k p reads set)) (rw k.tells at (rw is at lacks))
+refused-range i problem flows duals k v s l (refusal.TooLong set) (p, reads, before, many) =
+    let t = has-table i problem _ k set in
+    never-many k.library (name_of p set) _ (rw k.tells at (name-same i problem _ k p reads set)) (table-short _ t.0 t.1) (rw k.tells at many)
+refused-range i problem flows duals k v s l (refusal.NoTable set fault) (sets, fetches, before, e) =
+    let t = has-table i problem _ k set in
+    never-both table_read _ _ fault t.0 (sets-same i problem _ k sets fetches set) e t.1
+refused-range i problem flows duals k v s l (refusal.NoNetwork fault) (sets, fetches, t, tables, e) =
+    let same = sets-same i problem _ k sets fetches in
+    never-posed network_read _ _ k.posed.arcs k.posed.nodes fault problem
+    (read-twice table_read _ _ _ _ (same set.Arcdata) tables.arcdata k.posed.arcs_read)
+    (read-twice table_read _ _ _ _ (same set.Nodedata) tables.nodedata k.posed.nodes_read) e k.posed.posed
+refused-range i problem flows duals k v s l (refusal.NoCertificate fault) (sets, q, poses, table, is, e) =
+    let same = sets-same i problem _ k sets poses.fetches in
+    never-claimed (λ t p. cert_read t (length p.columns) (length p.rows)) table k.claimed.table q problem fault _
+    (read-twice table_read _ _ _ _ (same set.Certdata) is k.claimed.table_is) (problem-same i problem _ k sets q poses) e k.claimed.claimed
+refused-range i problem flows duals k v s l (refusal.NotValid why) (q, x, reads, answered) =
+    not-valid problem q x flows duals why (problem-same i problem _ k reads.sets q reads.poses) (certificate-same i problem _ k q x reads) v answered
+refused-range i problem flows duals k v s l (refusal.Range passed) h = tt
+
+-- a valid certificate is accepted where nothing fails
+pub accepts-valid : (c : Call) (s : Status) → Comes c s → AcceptsTheValid c s
+accepts-valid c status.Finished h = λ p x y n k v. inl refl
+accepts-valid c status.Usage h = λ p x y n k v. absurd (refused-range c.input p x y k v n.source n.library refusal.Usage h.0)
+accepts-valid c status.ProgramRefused h = λ p x y n k v. absurd (refused-range c.input p x y k v n.source n.library refusal.NoProgram h.0)
+accepts-valid c status.DataRefused (inl (set, (h, l))) = λ p x y n k v. absurd (refused-range c.input p x y k v n.source n.library (refusal.TooLong set) h)
+accepts-valid c status.DataRefused (inr (inl (set, fault, (h, l)))) = λ p x y n k v. absurd (refused-range c.input p x y k v n.source n.library (refusal.NoTable set fault) h)
+accepts-valid c status.DataRefused (inr (inr (fault, (h, l)))) = λ p x y n k v. absurd (refused-range c.input p x y k v n.source n.library (refusal.NoNetwork fault) h)
+accepts-valid c status.ReadFault h = λ p x y n k v. absurd (refused-range c.input p x y k v n.source n.library refusal.ReadFault h.0)
+accepts-valid c status.WriteFault h = λ p x y n k v. absurd (n.listing h.0)
+accepts-valid c status.Absent (name, (h, l)) = λ p x y n k v. absurd (refused-range c.input p x y k v n.source n.library (refusal.Absent name) h)
+accepts-valid c status.RangePassed h = λ p x y n k v. inr (inl refl)
+accepts-valid c status.CheckRefused (inl (fault, (h, l))) = λ p x y n k v. absurd (refused-range c.input p x y k v n.source n.library (refusal.NoCertificate fault) h)
+accepts-valid c status.CheckRefused (inr (why, (h, l))) = λ p x y n k v. absurd (refused-range c.input p x y k v n.source n.library (refusal.NotValid why) h)
+accepts-valid c status.NoMemory h = λ p x y n k v. inr (inr refl)
+accepts-valid c status.WarmRefused h = absurd h

@@ -1,0 +1,4 @@
+pub mod WordFacts
+pub mod ProgramFacts
+pub mod StopFacts
+pub mod CompleteFacts

@@ -1,0 +1,27 @@
+use Rattle.std.proofs.Common.{refl}
+use Rattle.std.proofs.lemmas.Result.{err_from_is_err_and}
+use Rattle.netflow.proofs.StopFacts.{saw-held, saw-later}
+use Rattle.netflow.proofs.sets.fetch_sets.Goals as goal
+
+pub returns-in_err-arcdata-clause-stops : goal.returns-in_err-arcdata-clause-stops
+returns-in_err-arcdata-clause-stops g c =
+    let p = err_from_is_err_and c.from_residual.result c.from_residual.ensures.1 in
+    rw (p.1, p.2) (λ i saw reads. c.in_err-arcdata.ensures.stops i _ saw reads tt refl)
+
+pub returns-in_err-nodedata-clause-stops : goal.returns-in_err-nodedata-clause-stops
+returns-in_err-nodedata-clause-stops g c =
+    let p = err_from_is_err_and c.from_residual-in_err-nodedata.result c.from_residual-in_err-nodedata.ensures.1 in
+    let one = c.in_ok-arcdata.ensures in
+    rw (p.1, p.2) (λ i saw reads.
+    c.in_err-nodedata.ensures.stops i _ (saw-later i _ _ _ _ _ _ _ _ saw one.held one.faults one.misses) reads
+    (c.in_ok-arcdata.arcdata.items, saw-held i _ _ _ saw.held one.ok) refl)
+
+pub returns-in_err-certdata-clause-stops : goal.returns-in_err-certdata-clause-stops
+returns-in_err-certdata-clause-stops g c =
+    let p = err_from_is_err_and c.from_residual-in_err-certdata.result c.from_residual-in_err-certdata.ensures.1 in
+    let one = c.in_ok-arcdata.ensures in
+    let two = c.in_ok-nodedata.ensures in
+    rw (p.1, p.2) (λ i saw reads.
+    let later = saw-later i _ _ _ _ _ _ _ _ saw one.held one.faults one.misses in
+    c.in_err-certdata.ensures.stops i _ (saw-later i _ _ _ _ _ _ _ _ later two.held two.faults two.misses) reads
+    (c.in_ok-arcdata.arcdata.items, c.in_ok-nodedata.nodedata.items, saw-held i _ _ _ saw.held one.ok, saw-held i _ _ _ later.held two.ok) refl)

@@ -1,0 +1,9 @@
+pub mod Status
+pub mod Words
+pub mod Program
+pub mod Pieces
+pub mod Data
+pub mod Lines
+pub mod Outcome
+pub mod Steps
+pub mod Headline

@@ -1,0 +1,155 @@
+//! The lines of the listing, each with its line feed. `AllocError` where there is no memory for a line.
+ghost use Rattle.std.specs.Prelude.{◌≡◌, ◌++◌, IfOk, codes};
+ghost use Rattle.netflow.specs.Lines.{accepted_lines, cert_line, network_line, range_line, table_line, too_long_line, why_line};
+
+use crate::sets::SetName;
+use nf_arcs::NetworkFault;
+use nf_cert::CertFault;
+use nf_frac::{Frac, Passed};
+use nf_io::Text;
+use nf_prob::Why;
+use nf_table::TableFault;
+use std::alloc::{AllocError, Global};
+
+/// What the words may be.
+pub(crate) const USAGE: &str =
+    "USAGE netflow run | netflow check | netflow sample SEED NODES ARCS CONS\n";
+
+/// These words alone.
+pub(crate) fn plain(alloc: Global, words: &str) -> Result<Text, AllocError>
+    ensures { IfOk result (λ t. t ≡ words.now) }
+{
+    Text::from_slice(alloc, words.as_bytes())
+}
+
+/// These words and a name.
+pub(crate) fn named(alloc: Global, words: &str, name: &Text) -> Result<Text, AllocError>
+    ensures { IfOk result (λ t. t ≡ words.now ++ (name.now ++ codes "\n")) }
+{
+    let mut text = Text::from_slice(alloc, words.as_bytes())?;
+    text.push(name.bytes())?;
+    text.push(b"\n")?;
+    Ok(text)
+}
+
+/// The certificate is accepted; its flows cost this.
+pub(crate) fn accepted(alloc: Global, cost: Frac) -> Result<Text, AllocError>
+    ensures { IfOk result (λ t. t ≡ accepted_lines cost) }
+{
+    plain(
+        alloc,
+        format!(in alloc; "ACCEPTED OPTIMAL\nTOTAL COST {cost}\n")?.as_str(),
+    )
+}
+
+/// A data set has too many bytes.
+pub(crate) fn too_long(alloc: Global, set: SetName) -> Result<Text, AllocError>
+    ensures { IfOk result (λ t. t ≡ too_long_line set) }
+{
+    plain(
+        alloc,
+        format!(in alloc; "DATA REFUSED {set}: TooLong\n")?.as_str(),
+    )
+}
+
+/// A data set is no table.
+pub(crate) fn no_table(alloc: Global, set: SetName, fault: &TableFault) -> Result<Text, AllocError>
+    ensures { IfOk result (λ t. t ≡ table_line set fault.now) }
+{
+    match fault {
+        TableFault::TooLong => too_long(alloc, set),
+        TableFault::NoHeader => {
+            plain(
+                alloc,
+                format!(in alloc; "DATA REFUSED {set}: NoHeader\n")?.as_str(),
+            )
+        }
+        TableFault::RowLength(row) => {
+            plain(
+                alloc,
+                format!(in alloc; "DATA REFUSED {set} ROW {row}: RowLength\n")?.as_str(),
+            )
+        }
+        TableFault::NotText(row) => {
+            plain(
+                alloc,
+                format!(in alloc; "DATA REFUSED {set} ROW {row}: NotText\n")?.as_str(),
+            )
+        }
+        TableFault::RepeatedColumn(name) => {
+            named(
+                alloc,
+                format!(in alloc; "DATA REFUSED {set}: RepeatedColumn ")?.as_str(),
+                name,
+            )
+        }
+        TableFault::NoMemory => Ok(Text::new(alloc)),
+    }
+}
+
+/// The tables are no network.
+pub(crate) fn no_network(alloc: Global, fault: NetworkFault) -> Result<Text, AllocError>
+    ensures { IfOk result (λ t. t ≡ network_line fault) }
+{
+    match fault {
+        NetworkFault::ArcForm => plain(alloc, "DATA REFUSED ARCDATA: Form\n"),
+        NetworkFault::NodeForm => plain(alloc, "DATA REFUSED NODEDATA: Form\n"),
+        NetworkFault::NoMemory => Ok(Text::new(alloc)),
+    }
+}
+
+/// The table of CERTDATA is no certificate.
+pub(crate) fn no_certificate(alloc: Global, fault: &CertFault) -> Result<Text, AllocError>
+    ensures { IfOk result (λ t. t ≡ cert_line fault.now) }
+{
+    match fault {
+        CertFault::NoColumn(name) => named(alloc, "REFUSED CERTDATA NO COLUMN ", name),
+        CertFault::UnknownRow(row) => {
+            plain(
+                alloc,
+                format!(in alloc; "REFUSED CERTDATA UNKNOWN ROW {row}\n")?.as_str(),
+            )
+        }
+        CertFault::MissingRow(row) => {
+            plain(
+                alloc,
+                format!(in alloc; "REFUSED CERTDATA MISSING ROW {row}\n")?.as_str(),
+            )
+        }
+        CertFault::Number(row) => {
+            plain(
+                alloc,
+                format!(in alloc; "REFUSED CERTDATA NUMBER ROW {row}\n")?.as_str(),
+            )
+        }
+        CertFault::NoMemory => Ok(Text::new(alloc)),
+    }
+}
+
+/// The certificate is not valid.
+pub(crate) fn not_valid(alloc: Global, why: Why) -> Result<Text, AllocError>
+    ensures { IfOk result (λ t. t ≡ why_line why) }
+{
+    match why {
+        Why::Bound(j) => plain(alloc, format!(in alloc; "REFUSED BOUND C{j}\n")?.as_str()),
+        Why::Row(i) => plain(alloc, format!(in alloc; "REFUSED ROW {i}\n")?.as_str()),
+        Why::ReducedCost(j) => {
+            plain(
+                alloc,
+                format!(in alloc; "REFUSED REDUCED COST C{j}\n")?.as_str(),
+            )
+        }
+        Why::Dual(i) => plain(alloc, format!(in alloc; "REFUSED DUAL {i}\n")?.as_str()),
+    }
+}
+
+/// A number of the check passes 128 bits.
+pub(crate) fn range(alloc: Global, passed: &Passed) -> Result<Text, AllocError>
+    ensures { IfOk result (λ t. t ≡ range_line passed.now) }
+{
+    let Passed { op, left, right } = *passed;
+    plain(
+        alloc,
+        format!(in alloc; "RANGE PASSED CHECK: {left} {op} {right}\n")?.as_str(),
+    )
+}

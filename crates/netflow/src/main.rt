@@ -1,0 +1,46 @@
+//! `netflow check` reads a program on standard input and its data sets in the folder in which it was started, and
+//! accepts a certificate exactly where it proves that its flows are best.
+#![tactic(auto)]
+
+mod check;
+mod lines;
+mod program;
+mod refusal;
+mod sets;
+mod status;
+mod top;
+mod words;
+
+use nf_io::{DirLibrary, ReadSource, WriteSink};
+use status::Status;
+use std::process::ExitCode;
+use std::{env, io};
+
+// The words after the program's name.
+fn words_of(rt: &HostRuntime) -> io::Result<Vec<String>> {
+    let mut words = Vec::new(rt.alloc());
+    for word in env::args(rt)?.skip(1) {
+        words.push(word)?;
+    }
+    Ok(words)
+}
+
+fn main(rt: HostRuntime) -> ExitCode {
+    let Ok(words) = words_of(&rt) else {
+        return ExitCode::from(Status::NoMemory.number());
+    };
+    let mut program = ReadSource::new(rt.reader());
+    let mut library = DirLibrary::new(rt.alloc(), &rt);
+    let mut listing = WriteSink::new(io::writer(&rt));
+    let status = top::netflow(
+        rt.alloc(),
+        words.as_slice(),
+        &mut program,
+        &mut library,
+        &mut listing,
+    );
+    ExitCode::from(status.number())
+}
+
+#[cfg(test)]
+mod tests;

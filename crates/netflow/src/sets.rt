@@ -1,0 +1,157 @@
+//! The data sets of a program: their bytes, and then their tables.
+ghost use Rattle.std.specs.Prelude.{true, ◌≡◌, ◌≤◌, ℕ, List, Some, MatchResult, IfOk, IfErr};
+ghost use Rattle.nf_io.specs.Held.{HasName};
+ghost use Rattle.netflow.specs.Data.{AreTables, AreTablesBefore, IsTable, Sets as SetBytes, bytes_of};
+ghost use Rattle.netflow.specs.Lines.{set_word};
+ghost use Rattle.netflow.specs.Outcome.{AreHeld, AreHeldBefore, FetchesSets, Input, ReadsProgram, name_of};
+ghost use Rattle.netflow.specs.Program.{Program as Named};
+ghost use Rattle.netflow.specs.Pieces.{program_named};
+ghost use Rattle.netflow.specs.Steps.{SawFetches, Stops, grids_of, sets_of};
+
+use crate::program::Program;
+use crate::refusal::{Refusal, Stop};
+use nf_io::{FetchFault, Library, Text};
+use nf_table::{Table, TableFault, read_table};
+use std::alloc::{AllocError, Global};
+use std::fmt;
+
+/// A data set, by the option of PROC that names it.
+#[derive(Clone, Copy, Debug, PartialEq, Eq)]
+pub(crate) enum SetName {
+    Arcdata,
+    Nodedata,
+    Certdata,
+}
+
+impl fmt::Display for SetName {
+    ghost output = { λ s. Some (set_word s) };
+
+    fn fmt<W: fmt::Write>(&self, f: &mut fmt::Formatter<W>) -> fmt::Result {
+        match self {
+            SetName::Arcdata => write!(f, "ARCDATA"),
+            SetName::Nodedata => write!(f, "NODEDATA"),
+            SetName::Certdata => write!(f, "CERTDATA"),
+        }
+    }
+}
+
+/// The bytes of the data sets of a program.
+#[derive(Debug, Drop)]
+pub(crate) struct Sets {
+    arcdata: Vec<u8>,
+    nodedata: Vec<u8>,
+    certdata: Vec<u8>,
+}
+
+/// Their tables.
+#[derive(Drop)]
+pub(crate) struct Tables {
+    pub(crate) arcdata: Table,
+    pub(crate) nodedata: Table,
+    pub(crate) certdata: Table,
+}
+
+// The refusal of a name that the library lacks.
+fn absent(alloc: Global, name: &str) -> Result<Refusal, AllocError>
+    ensures { IfOk result (λ r. r ≡ Refusal.Absent name.now) }
+{
+    let name = Text::from_slice(alloc, name.as_bytes())?;
+    Ok(Refusal::Absent(name))
+}
+
+// The bytes of a data set, which has this name in the program.
+fn fetch_set<L: Library>(
+    alloc: Global,
+    set: SetName,
+    name: &str,
+    library: &mut L,
+) -> Result<Vec<u8>, Stop>
+    ensures held { L.held library.new ≡ L.held library.old }
+    ensures stores { L.store_faults library.new ≡ L.store_faults library.old }
+    ensures faults { L.fetch_faults library.old ≤ L.fetch_faults library.new }
+    ensures misses { (q : List ℕ) → L.misses library.old q ≤ L.misses library.new q }
+    ensures quiet { L.quiet_fetches library.new ≡ L.quiet_fetches library.old }
+    ensures calm { L.quiet_fetches library.old ≡ true → L.fetch_faults library.new ≡ L.fetch_faults library.old }
+    ensures ok { IfOk result (λ v. HasName (L.held library.old) name.now v.items) }
+    ensures stops { IfErr result (λ stop. (i : Input) (p : Named) →
+        SawFetches i (L.held library.old) (L.fetch_faults library.old) (L.fetch_faults library.new) (L.misses library.old) (L.misses library.new) →
+        ReadsProgram i p → AreHeldBefore i.held p set → name.now ≡ name_of p set → Stops i stop) }
+{
+    let mut bytes = Vec::new(alloc);
+    match library.fetch(alloc, name, &mut bytes) {
+        Ok(()) => Ok(bytes),
+        Err(FetchFault::Failed) => Err(Stop::Refused(Refusal::ReadFault)),
+        Err(FetchFault::Absent) => match absent(alloc, name) {
+            Ok(refusal) => Err(Stop::Refused(refusal)),
+            Err(_) => Err(Stop::NoMemory),
+        },
+        Err(FetchFault::TooLong) => Err(Stop::Refused(Refusal::TooLong(set))),
+        Err(FetchFault::NoMemory) => Err(Stop::NoMemory),
+    }
+}
+
+/// The bytes of the data sets of a program, fetched in the order ARCDATA, NODEDATA, CERTDATA.
+///
+/// It stops at the first fetch that is not answered by `Ok`: `ReadFault` where it failed, `Absent` where the library lacks
+/// the name, `TooLong` where it has too many bytes.
+pub(crate) fn fetch_sets<L: Library>(
+    alloc: Global,
+    program: Program<'_>,
+    library: &mut L,
+) -> Result<Sets, Stop>
+    ensures held { L.held library.new ≡ L.held library.old }
+    ensures stores { L.store_faults library.new ≡ L.store_faults library.old }
+    ensures faults { L.fetch_faults library.old ≤ L.fetch_faults library.new }
+    ensures misses { (q : List ℕ) → L.misses library.old q ≤ L.misses library.new q }
+    ensures quiet { L.quiet_fetches library.new ≡ L.quiet_fetches library.old }
+    ensures calm { L.quiet_fetches library.old ≡ true → L.fetch_faults library.new ≡ L.fetch_faults library.old }
+    ensures ok { let p = program_named program.entry.arcdata.now program.entry.nodedata.now program.entry.certdata.now in
+        IfOk result (λ s. AreHeld (L.held library.old) p (sets_of s)) }
+    ensures stops { let p = program_named program.entry.arcdata.now program.entry.nodedata.now program.entry.certdata.now in
+        IfErr result (λ stop. (i : Input) →
+        SawFetches i (L.held library.old) (L.fetch_faults library.old) (L.fetch_faults library.new) (L.misses library.old) (L.misses library.new) →
+        ReadsProgram i p → Stops i stop) }
+{
+    let arcdata = fetch_set(alloc, SetName::Arcdata, program.arcdata, library)?;
+    let nodedata = fetch_set(alloc, SetName::Nodedata, program.nodedata, library)?;
+    let certdata = fetch_set(alloc, SetName::Certdata, program.certdata, library)?;
+    Ok(Sets {
+        arcdata,
+        nodedata,
+        certdata,
+    })
+}
+
+// The table of a data set, whose bytes are let go.
+fn read_set(alloc: Global, set: SetName, bytes: Vec<u8>) -> Result<Table, Stop>
+    ensures ok { IfOk result (IsTable bytes.items) }
+    ensures stops { IfErr result (λ stop. (i : Input) (s : SetBytes) →
+        FetchesSets i s → AreTablesBefore s set → bytes.items ≡ bytes_of s set → Stops i stop) }
+{
+    match read_table(alloc, &bytes) {
+        Ok(table) => Ok(table),
+        Err(TableFault::NoMemory) => Err(Stop::NoMemory),
+        Err(fault) => Err(Stop::Refused(Refusal::NoTable(set, fault))),
+    }
+}
+
+/// The tables of the data sets, read in the order ARCDATA, NODEDATA, CERTDATA. The bytes of each are let go once it is
+/// read. It stops with `NoTable` at the first that is no table.
+pub(crate) fn read_tables(alloc: Global, sets: Sets) -> Result<Tables, Stop>
+    ensures ok { IfOk result (λ t. AreTables (sets_of sets) (grids_of t)) }
+    ensures stops { IfErr result (λ stop. (i : Input) → FetchesSets i (sets_of sets) → Stops i stop) }
+{
+    let Sets {
+        arcdata,
+        nodedata,
+        certdata,
+    } = sets;
+    let arcdata = read_set(alloc, SetName::Arcdata, arcdata)?;
+    let nodedata = read_set(alloc, SetName::Nodedata, nodedata)?;
+    let certdata = read_set(alloc, SetName::Certdata, certdata)?;
+    Ok(Tables {
+        arcdata,
+        nodedata,
+        certdata,
+    })
+}
