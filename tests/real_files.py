@@ -1,0 +1,286 @@
+#!/usr/bin/env python3
+"""The built program on real files: the shipped example, changes that must be refused, and input with faults.
+
+    python3 tests/real_files.py --netflow crates/netflow/out/netflow
+
+Each case runs in a folder of its own. What is expected is typed from docs/FORMATS.md and examples/distribution/README.md.
+A refusal must be the whole listing, and nothing may stand on standard error.
+"""
+import argparse
+import csv
+import os
+import shutil
+import subprocess
+import sys
+import tempfile
+from fractions import Fraction
+
+TOP = os.path.dirname(os.path.dirname(os.path.abspath(__file__)))
+EXAMPLE = os.path.join(TOP, "examples", "distribution")
+ACCEPTED = (0, "ACCEPTED OPTIMAL\nTOTAL COST 725\n")
+USAGE = "USAGE netflow run | netflow check | netflow sample SEED NODES ARCS CONS"
+
+# file, text that stands there once, text in its place, status, listing
+ONE_CHANGE = [
+    # the certificate's numbers
+    ("certificate.csv", "COL,1,30,", "COL,1,29,", 9, "REFUSED ROW 1"),
+    ("certificate.csv", "COL,1,30,", "COL,1,31,", 9, "REFUSED BOUND C1"),
+    ("certificate.csv", "COL,7,0,", "COL,7,-1,", 9, "REFUSED BOUND C7"),
+    ("certificate.csv", "COL,13,0,", "COL,13,1,", 9, "REFUSED ROW 1"),
+    ("certificate.csv", "COL,12,10,", "COL,12,21/2,", 9, "REFUSED ROW 3"),
+    ("certificate.csv", "ROW,4,-1,", "ROW,4,-2,", 9, "REFUSED REDUCED COST C3"),
+    ("certificate.csv", "ROW,9,-15,", "ROW,9,-16,", 9, "REFUSED REDUCED COST C11"),
+    # the certificate's layout
+    ("certificate.csv", "_VALUE_", "VALUE", 9, "REFUSED CERTDATA NO COLUMN _VALUE_"),
+    ("certificate.csv", "_ITEM_,_NUMBER_", "ITEM,NUMBER", 9, "REFUSED CERTDATA NO COLUMN _ITEM_"),
+    ("certificate.csv", "_NUMBER_", "_NO_", 9, "REFUSED CERTDATA NO COLUMN _NUMBER_"),
+    ("certificate.csv", "VERDICT,1,OPTIMAL,", "VERDICT,1,INFEASIBLE,", 9, "REFUSED CERTDATA UNKNOWN ROW 1"),
+    ("certificate.csv", "VERDICT,1,OPTIMAL,", "VERDICT,1,optimal,", 9, "REFUSED CERTDATA UNKNOWN ROW 1"),
+    ("certificate.csv", "COL,3,15,", "col,3,15,", 9, "REFUSED CERTDATA UNKNOWN ROW 4"),
+    ("certificate.csv", "COL,3,15,", "COL,03,15,", 9, "REFUSED CERTDATA UNKNOWN ROW 4"),
+    ("certificate.csv", "COL,3,15,", "COL,3,30/2,", 9, "REFUSED CERTDATA NUMBER ROW 4"),
+    ("certificate.csv", "COL,3,15,", "COL,3,+15,", 9, "REFUSED CERTDATA NUMBER ROW 4"),
+    ("certificate.csv", "COL,3,15,", "COL,3,,", 9, "REFUSED CERTDATA NUMBER ROW 4"),
+    ("certificate.csv", "COL,3,15,", "COL,3,15.0,", 9, "REFUSED CERTDATA NUMBER ROW 4"),
+    ("certificate.csv", "ROW,9,-15,Foxford\n", "", 9, "REFUSED CERTDATA MISSING ROW 23"),
+    ("certificate.csv", "ROW,9,-15,Foxford\n", "ROW,9,-15,Foxford\nROW,10,0,\n", 9, "REFUSED CERTDATA UNKNOWN ROW 24"),
+    ("certificate.csv", "COL,13,0,Amber mill to Carlow\n", "", 9, "REFUSED CERTDATA UNKNOWN ROW 14"),
+    # what the layout leaves free
+    ("certificate.csv", "COL,3,15,", " COL , 3,15  ,", *ACCEPTED),
+    ("certificate.csv", "_ITEM_,_NUMBER_,_VALUE_", "_item_,_Number_,_VALUE_", *ACCEPTED),
+    ("arcs.csv", "Birch mill,West depot,5,INF", "Birch mill,\"West depot\", 005 ,inf", *ACCEPTED),
+    ("nodes.csv", "Birch mill,35", "\r\nBirch mill , 35", *ACCEPTED),
+    ("program.txt", "certificate;\n", "certificate;", *ACCEPTED),
+    # the data
+    ("arcs.csv", "East depot,4,30", "East depot,4,31", 9, "REFUSED REDUCED COST C1"),
+    ("arcs.csv", "East depot,4,30", "East depot,4,29", 9, "REFUSED BOUND C1"),
+    ("arcs.csv", "South depot,3,20", "South depot,3,INF", 9, "REFUSED REDUCED COST C4"),
+    ("arcs.csv", "East depot,Carlow,5,INF", "East depot,Carlow,6,INF", 9, "REFUSED REDUCED COST C6"),
+    ("arcs.csv", "East depot,Carlow,5,INF", "East depot,Carlow,5", 4, "DATA REFUSED ARCDATA ROW 6: RowLength"),
+    ("arcs.csv", "East depot,Carlow,5,INF", "East depot,Carlow,5,INF,", 4, "DATA REFUSED ARCDATA ROW 6: RowLength"),
+    ("arcs.csv", "East depot,Carlow,5,INF", "East depot,Carlow,x,INF", 4, "DATA REFUSED ARCDATA: Form"),
+    ("arcs.csv", "East depot,Carlow,5,INF", "East depot,Carlow,5,", 4, "DATA REFUSED ARCDATA: Form"),
+    ("arcs.csv", "East depot,Carlow,5,INF", "East depot,Carlow,5,-3", 4, "DATA REFUSED ARCDATA: Form"),
+    ("arcs.csv", "East depot,Carlow,5,INF", "East depot,Carlow,1234567890,INF", 4, "DATA REFUSED ARCDATA: Form"),
+    ("arcs.csv", "East depot,Carlow,5,INF", "East depot,_EXCESS_,5,INF", 4, "DATA REFUSED ARCDATA: Form"),
+    ("arcs.csv", "East depot,Carlow,5,INF", "East depot,.,5,INF", 4, "DATA REFUSED ARCDATA: Form"),
+    ("arcs.csv", "East depot,Derry,7,12", "East depot,Carlow,7,12", 4, "DATA REFUSED ARCDATA: Form"),
+    ("arcs.csv", "_COST_", "_CAPAC_", 4, "DATA REFUSED ARCDATA: RepeatedColumn _CAPAC_"),
+    ("arcs.csv", "_COST_", "_to_", 4, "DATA REFUSED ARCDATA: RepeatedColumn _to_"),
+    ("arcs.csv", "_COST_", "COST", 4, "DATA REFUSED ARCDATA: Form"),
+    ("arcs.csv", "_COST_,_CAPAC_", "_CAPAC_,_COST_", 4, "DATA REFUSED ARCDATA: Form"),
+    ("nodes.csv", "Carlow,-20", "Carlow,-21", 4, "DATA REFUSED NODEDATA: Form"),
+    ("nodes.csv", "Carlow,-20", "Derry,-20", 4, "DATA REFUSED NODEDATA: Form"),
+    ("nodes.csv", "Carlow,-20", "Carlow,-20.0", 4, "DATA REFUSED NODEDATA: Form"),
+    ("nodes.csv", "Carlow,-20", "Carlow", 4, "DATA REFUSED NODEDATA ROW 3: RowLength"),
+    ("nodes.csv", "_SUPDEM_", "_SUPPLY_", 4, "DATA REFUSED NODEDATA: Form"),
+    # the program text
+    ("program.txt", "certificate;\n", "certificate; run;\n", 3, "PROGRAM REFUSED AT 0: Form"),
+    ("program.txt", "proc netflow", "PROC NETFLOW", 3, "PROGRAM REFUSED AT 0: Form"),
+    ("program.txt", "proc netflow", "proc  netflow", 3, "PROGRAM REFUSED AT 0: Form"),
+    ("program.txt", "certificate;", "certificate", 3, "PROGRAM REFUSED AT 0: Form"),
+    ("program.txt", " certdata=certificate", "", 3, "PROGRAM REFUSED AT 0: Form"),
+    ("program.txt", "certificate;\n", "certificate;\n\n", 3, "PROGRAM REFUSED AT 0: Form"),
+    ("program.txt", "certdata=certificate", "certdata=elsewhere", 7, "ABSENT elsewhere"),
+    ("program.txt", "arcdata=arcs", "arcdata=nodes", 4, "DATA REFUSED ARCDATA: Form"),
+]
+
+# name of a file, its bytes in place of those that it has (None: there is no such file), status, listing
+WHOLE_FILE = [
+    ("arcs.csv", None, 7, "ABSENT arcs"),
+    ("nodes.csv", None, 7, "ABSENT nodes"),
+    ("certificate.csv", None, 7, "ABSENT certificate"),
+    ("arcs.csv", b"", 4, "DATA REFUSED ARCDATA: NoHeader"),
+    ("nodes.csv", b"\r\n\n", 4, "DATA REFUSED NODEDATA: NoHeader"),
+    ("certificate.csv", b"\xef\xbb\xbf", 4, "DATA REFUSED CERTDATA: NoHeader"),
+    ("certificate.csv", b"_ITEM_,_NUMBER_,_VALUE_\n", 9, "REFUSED CERTDATA MISSING ROW 1"),
+    ("certificate.csv", b"_ITEM_,_NUMBER_,_VALUE_\nVERDICT,1,OPTIMAL\nCOL,1,\xff\n", 4, "DATA REFUSED CERTDATA ROW 2: NotText"),
+    ("arcs.csv", b"_FROM_,_TO_,_COST_,_CAPAC_\n\xc3,b,1,1\n", 4, "DATA REFUSED ARCDATA ROW 1: NotText"),
+    ("arcs.csv", b"_FROM_,_TO_,_COST_,\xff\n", 4, "DATA REFUSED ARCDATA ROW 0: NotText"),
+    ("arcs.csv", b"_FROM_,_TO_,_COST_,_CAPAC_\n" + b"a,b,1,1\n" * (67108864 // 8), 4, "DATA REFUSED ARCDATA: TooLong"),
+    ("program.txt", b"", 3, "PROGRAM REFUSED AT 0: Form"),
+    ("program.txt", b"proc netflow arcdata=arcs nodedata=nodes certdata=certificate;" + b"\n" * 1048576, 3, "PROGRAM REFUSED AT 0: Form"),
+    ("program.txt", b"proc netflow arcdata=\xff nodedata=nodes certdata=certificate;\n", 3, "PROGRAM REFUSED AT 0: Form"),
+]
+
+WORDS = [[], ["run"], ["sample", "1", "3", "3", "0"], ["check", "check"], ["CHECK"], ["check "], [""], ["--help"], ["-"]]
+
+
+class Runner:
+    """Runs cases in fresh copies of the example, and counts."""
+
+    def __init__(self, program):
+        self.program, self.passed, self.failed = os.path.abspath(program), 0, 0
+
+    def run(self, folder, words=("check",), out=subprocess.PIPE):
+        with open(os.path.join(folder, "program.txt"), "rb") as text:
+            done = subprocess.run([self.program, *words], stdin=text, stdout=out, stderr=subprocess.PIPE, cwd=folder, timeout=120)
+        return done.returncode, (done.stdout or b"").decode("utf-8", "replace"), done.stderr.decode("utf-8", "replace")
+
+    def expect(self, what, got, status, listing):
+        listing = listing if listing.endswith("\n") or not listing else listing + "\n"
+        if got == (status, listing, ""):
+            self.passed += 1
+        else:
+            self.failed += 1
+            print("FAILED %s: status %d, listing %r, standard error %r; expected %d, %r" % (what, *got, status, listing))
+
+    def refused(self, what, got):
+        """Refused as a certificate, by one line."""
+        if got[0] == 9 and got[1].startswith("REFUSED ") and got[1].count("\n") == 1 and got[2] == "":
+            self.passed += 1
+        else:
+            self.failed += 1
+            print("FAILED %s: status %d, listing %r, standard error %r; expected a refusal" % (what, *got))
+
+
+class Copy:
+    """A fresh copy of the example."""
+
+    def __enter__(self):
+        self.folder = tempfile.mkdtemp()
+        for name in ("arcs.csv", "nodes.csv", "certificate.csv", "program.txt"):
+            shutil.copy(os.path.join(EXAMPLE, name), self.folder)
+        return self
+
+    def __exit__(self, *_):
+        shutil.rmtree(self.folder)
+
+    def path(self, name):
+        return os.path.join(self.folder, name)
+
+    def rows(self, name):
+        with open(self.path(name), newline="", encoding="utf-8") as f:
+            return list(csv.reader(f))
+
+    def write(self, name, rows):
+        with open(self.path(name), "w", newline="", encoding="utf-8") as f:
+            csv.writer(f, lineterminator="\n").writerows(rows)
+
+    def change(self, name, old, new):
+        with open(self.path(name), newline="", encoding="utf-8") as f:
+            text = f.read()
+        assert text.count(old) == 1, "%r stands %d times in %s" % (old, text.count(old), name)
+        with open(self.path(name), "w", newline="", encoding="utf-8") as f:
+            f.write(text.replace(old, new))
+
+
+def shipped_example(t):
+    with open(os.path.join(EXAMPLE, "listing.txt"), encoding="utf-8") as f:
+        listing = f.read()
+    with Copy() as c:
+        t.expect("the example", t.run(c.folder), 0, listing)
+    t.expect("the listing of the README", (0, listing, ""), *ACCEPTED)
+
+
+def each_number(t):
+    """Each flow and each dual, changed by 1/1000 either way."""
+    with Copy() as c:
+        rows = c.rows("certificate.csv")
+    for n in range(2, len(rows)):
+        for step in (Fraction(1, 1000), Fraction(-1, 1000)):
+            with Copy() as c:
+                changed = [list(row) for row in rows]
+                changed[n][2] = str(Fraction(rows[n][2]) + step)
+                c.write("certificate.csv", changed)
+                t.refused("%s %s made %s" % (*rows[n][:2], changed[n][2]), t.run(c.folder))
+
+
+def each_binding_capacity(t):
+    """Each capacity that a flow uses in full at a gain, changed by 1 either way."""
+    with Copy() as c:
+        arcs, flows = c.rows("arcs.csv"), c.rows("certificate.csv")[2:]
+    full = [j for j in range(1, len(arcs)) if arcs[j][3] == flows[j - 1][2]]
+    assert len(full) == 2
+    for j in full:
+        for step in (1, -1):
+            with Copy() as c:
+                changed = [list(row) for row in arcs]
+                changed[j][3] = str(int(arcs[j][3]) + step)
+                c.write("arcs.csv", changed)
+                t.refused("capacity of arc %d made %s" % (j, changed[j][3]), t.run(c.folder))
+
+
+def each_two_supplies(t):
+    """A unit more here and one less there: the total stays 0."""
+    with Copy() as c:
+        nodes = c.rows("nodes.csv")
+    for a in range(1, len(nodes)):
+        for b in range(1, len(nodes)):
+            if a != b:
+                with Copy() as c:
+                    changed = [list(row) for row in nodes]
+                    changed[a][1], changed[b][1] = str(int(nodes[a][1]) + 1), str(int(nodes[b][1]) - 1)
+                    c.write("nodes.csv", changed)
+                    t.refused("a unit more at %s, one less at %s" % (nodes[a][0], nodes[b][0]), t.run(c.folder))
+
+
+def tables(t):
+    for name, old, new, status, listing in ONE_CHANGE:
+        with Copy() as c:
+            c.change(name, old, new)
+            t.expect("%s: %r for %r" % (name, new, old), t.run(c.folder), status, listing)
+    for name, content, status, listing in WHOLE_FILE:
+        with Copy() as c:
+            os.remove(c.path(name))
+            if content is not None:
+                with open(c.path(name), "wb") as f:
+                    f.write(content)
+            t.expect("%s with other bytes (%s)" % (name, listing), t.run(c.folder), status, listing)
+    for words in WORDS:
+        with Copy() as c:
+            t.expect("words %r" % (words,), t.run(c.folder, words), 2, USAGE)
+
+
+def too_many_nodes(t):
+    """1,000 nodes are taken, 1,001 are not."""
+    for count, status, listing in ((1000, 0, "ACCEPTED OPTIMAL\nTOTAL COST 0\n"), (1001, 4, "DATA REFUSED NODEDATA: Form")):
+        with Copy() as c:
+            c.write("arcs.csv", [["_FROM_", "_TO_", "_COST_", "_CAPAC_"]])
+            c.write("nodes.csv", [["_NODE_", "_SUPDEM_"]] + [["n%d" % i, "0"] for i in range(count)])
+            c.write("certificate.csv", [["_ITEM_", "_NUMBER_", "_VALUE_"], ["VERDICT", "1", "OPTIMAL"]]
+                    + [["ROW", str(i), "1/3"] for i in range(1, count + 1)])
+            t.expect("%d nodes" % count, t.run(c.folder), status, listing)
+
+
+def passes_the_range(t):
+    """Flows and duals of 127 bits: an answer in 128 bits cannot be had, and is not made up."""
+    most = str(2 ** 127 - 1)
+    with Copy() as c:
+        c.write("arcs.csv", [["_FROM_", "_TO_", "_COST_", "_CAPAC_"], ["a", "b", "1", "INF"], ["b", "a", "1", "INF"]])
+        c.write("nodes.csv", [["_NODE_", "_SUPDEM_"]])
+        c.write("certificate.csv", [["_ITEM_", "_NUMBER_", "_VALUE_"], ["VERDICT", "1", "OPTIMAL"], ["COL", "1", "0"], ["COL", "2", "0"],
+                                    ["ROW", "1", most], ["ROW", "2", "-" + most]])
+        status, listing, error = t.run(c.folder)
+        begins = listing if listing.count("\n") != 1 else listing.split(":")[0]
+        t.expect("numbers of 127 bits", (status, begins + "\n", error), 8, "RANGE PASSED CHECK")
+
+
+def outside(t):
+    """Files that are folders, and an output that takes nothing."""
+    for name in ("arcs.csv", "nodes.csv", "certificate.csv"):
+        with Copy() as c:
+            os.remove(c.path(name))
+            os.mkdir(c.path(name))
+            t.expect("%s is a folder" % name, t.run(c.folder), 5, "READ FAULT")
+    if not os.path.exists("/dev/full"):
+        print("there is no /dev/full here: the full device is left out")
+        return
+    for what, words in (("accepted", ["check"]), ("usage", ["run"])):
+        with Copy() as c, open("/dev/full", "wb") as full:
+            got = t.run(c.folder, words, full)
+            t.expect("full device, %s" % what, got, 6, "")
+
+
+def main():
+    parser = argparse.ArgumentParser(description="The built program on real files.")
+    parser.add_argument("--netflow", required=True, help="the built program")
+    t = Runner(parser.parse_args().netflow)
+    for part in (shipped_example, each_number, each_binding_capacity, each_two_supplies, tables, too_many_nodes, passes_the_range, outside):
+        part(t)
+    print("%d passed, %d failed" % (t.passed, t.failed))
+    return 1 if t.failed else 0
+
+
+if __name__ == "__main__":
+    sys.exit(main())
