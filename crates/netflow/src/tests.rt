@@ -183,6 +183,27 @@ fn tells_what_stops_it(rt: HostRuntime) -> Result<(), Fail> {
         (
             "check",
             PROGRAM,
+            [2, 0, 0],
+            Status::ReadFault,
+            "READ FAULT\n",
+        ),
+        (
+            "check",
+            PROGRAM,
+            [0, 1, 0],
+            Status::ReadFault,
+            "READ FAULT\n",
+        ),
+        (
+            "check",
+            PROGRAM,
+            [0, 2, 0],
+            Status::ReadFault,
+            "READ FAULT\n",
+        ),
+        (
+            "check",
+            PROGRAM,
             [0, 3, 0],
             Status::ReadFault,
             "READ FAULT\n",
@@ -209,15 +230,20 @@ fn tells_what_stops_it(rt: HostRuntime) -> Result<(), Fail> {
     Ok(())
 }
 
-// The inverses of 2^127 - 1 and of 2^127 - 2 have no common multiple of their denominators below 2^127.
+// The inverses of 2^127 - 1 and of 2^127 - 2 have no common multiple of their denominators below 2^127; and 2^127 - 1
+// less its negative is above it.
 #[test]
 fn tells_numbers_that_pass(rt: HostRuntime) -> Result<(), Fail> {
-    let duals =
-        "_ITEM_,_NUMBER_,_VALUE_\nVERDICT,1,OPTIMAL\nCOL,1,5\nROW,1,1/170141183460469231731687303715884105727\nROW,2,1/170141183460469231731687303715884105726\n";
-    let sets = [ARCS.as_bytes(), NODES.as_bytes(), duals.as_bytes()];
-    let (answer, listed) = call(rt.alloc(), &["check"], PROGRAM, sets, [0, 0, 0])?;
-    assert_eq!(rt; answer, Status::RangePassed);
-    assert!(rt; listed.bytes().starts_with(b"RANGE PASSED CHECK: "));
+    let cases = [
+        "_ITEM_,_NUMBER_,_VALUE_\nVERDICT,1,OPTIMAL\nCOL,1,5\nROW,1,1/170141183460469231731687303715884105727\nROW,2,1/170141183460469231731687303715884105726\n",
+        "_ITEM_,_NUMBER_,_VALUE_\nVERDICT,1,OPTIMAL\nCOL,1,5\nROW,1,170141183460469231731687303715884105727\nROW,2,-170141183460469231731687303715884105727\n",
+    ];
+    for duals in cases {
+        let sets = [ARCS.as_bytes(), NODES.as_bytes(), duals.as_bytes()];
+        let (answer, listed) = call(rt.alloc(), &["check"], PROGRAM, sets, [0, 0, 0])?;
+        assert_eq!(rt; answer, Status::RangePassed);
+        assert!(rt; listed.bytes().starts_with(b"RANGE PASSED CHECK: "));
+    }
     Ok(())
 }
 
