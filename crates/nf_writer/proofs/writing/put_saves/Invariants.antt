@@ -1,0 +1,8 @@
+use Rattle.std.proofs.Common.{◌≡◌, ◌++◌, take}
+use Rattle.std.specs.List.{flat_map}
+use Rattle.nf_program.specs.Settings.{save_setting}
+use Rattle.nf_writer.specs.Canonical.{text_of, setting_pieces}
+use Rattle.nf_writer.proofs.writing.put_saves.Given as goal
+
+abbrev pub invariant-loop-item : goal.invariant-loop-item
+invariant-loop-item l = l.out ≡ l.fn.out ++ text_of (flat_map (λ i. setting_pieces (save_setting i)) (take l.item-index l.items))

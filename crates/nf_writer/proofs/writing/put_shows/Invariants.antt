@@ -1,0 +1,7 @@
+use Rattle.std.proofs.Common.{◌≡◌, ◌++◌, take}
+use Rattle.std.specs.List.{flat_map}
+use Rattle.nf_writer.specs.Canonical.{text_of, show_pieces}
+use Rattle.nf_writer.proofs.writing.put_shows.Given as goal
+
+abbrev pub invariant-loop-item : goal.invariant-loop-item
+invariant-loop-item l = l.out ≡ l.fn.out ++ text_of (flat_map show_pieces (take l.item-index l.items))
