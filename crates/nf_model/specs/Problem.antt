@@ -1,5 +1,5 @@
 -- What holds of the program of a network with side rows. Every problem and every builder of one keeps it.
-use Rattle.std.specs.Prelude.{◌≡◌, ◌≢◌, ℕ, suc, ◌<◌, ◌≤◌, List, [], ◌∷◌, length, Option, Some, None}
+use Rattle.std.specs.Prelude.{◌≡◌, ◌≢◌, ℕ, suc, ◌+◌, ◌<◌, ◌≤◌, List, [], ◌∷◌, length, count_by, nat_le, Option, Some, None}
 use Rattle.std.specs.List.{All}
 use Rattle.nf_num.specs.Rational.{ℚ, zero_ℚ, ◌-ℚ◌}
 use Rattle.nf_num.specs.Sum.{delta}
@@ -27,19 +27,26 @@ abbrev pub node_entry : Option Ends → ℕ → ℚ
 node_entry None i = zero_ℚ
 node_entry (Some e) i = delta e.tail i -ℚ delta e.head i
 
+-- How many of the entries are in side rows, which follow the nodes.
+abbrev pub count_in_sides : ℕ → List Entry → ℕ
+count_in_sides nodes es = count_by (λ e. nat_le nodes e.row) es
+
 -- A column of a program with so many nodes and rows: its bounds do not cross, its entries stand by row number, and
--- those at nodes are those of its ends.
+-- those at nodes are those of its ends, two at most.
 pub record IsColumn (nodes rows : ℕ) (c : Column) : Type 0 where
   pub ordered : AreInOrder (lower_of c) (upper_of c)
   pub by_row : RiseBetween 0 rows c.entries
   pub ends_within : HaveEndsBelow nodes c.ends
   pub at_nodes : HoldsBelow nodes (λ i. entry_at c.entries i ≡ node_entry c.ends i)
+  pub few_at_nodes : length c.entries ≤ 2 + count_in_sides nodes c.entries
 
--- Node rows are equations and come first, arcs come first, and every column is one of this program.
+-- Node rows are equations and come first, arcs come first and have a lower bound, and every column is one of this
+-- program.
 pub record IsProblem (p : LinearProgram) : Type 0 where
   pub nodes_within : p.nodes ≤ length p.rows
   pub arcs_within : p.arcs ≤ length p.columns
   pub nodes_are_equal : HoldsBelow p.nodes (λ i. (row p i).kind ≡ Eq)
   pub arcs_first : HoldsBelow p.arcs (λ j. (column p j).ends ≢ None)
+  pub arcs_have_lower : HoldsBelow p.arcs (λ j. lower_of (column p j) ≢ None)
   pub others_last : (j : ℕ) → p.arcs ≤ j → (column p j).ends ≡ None
   pub each : All (IsColumn p.nodes (length p.rows)) p.columns
