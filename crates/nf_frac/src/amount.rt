@@ -1,5 +1,7 @@
 //! Amounts of the data, in thousandths.
 ghost use Rattle.std.specs.Prelude.{◌≡◌, ◌≤◌, IfOk};
+ghost use Rattle.nf_num.specs.Rational.{frac};
+ghost use Rattle.nf_frac.specs.Range.{InRange};
 ghost use Rattle.nf_frac.specs.Amounts.{IsAmount, amount_read, amount_value, most_thousandths, parts_read, magnitude_read, whole_read};
 
 use crate::digits::{are_digits, number, split_once};
@@ -29,6 +31,14 @@ impl Frac {
         ensures { result ≡ amount_value a }
     {
         Frac::reduced(a.thousandths as i128, 1000, 1000)
+    }
+
+    /// So many thousandths as a fraction in lowest terms, of any amounts or sums of amounts.
+    pub fn from_thousandths(thousandths: i128) -> Frac
+        requires { InRange thousandths }
+        ensures { result ≡ frac thousandths 1000 }
+    {
+        Frac::reduced(thousandths, 1000, 1000)
     }
 }
 

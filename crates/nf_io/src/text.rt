@@ -35,6 +35,13 @@ impl Text {
         })
     }
 
+    /// The text of a list of bytes. It takes no memory.
+    pub fn from_vec(bytes: Vec<u8>) -> Text
+        ensures { result ≡ bytes.items }
+    {
+        Text { bytes }
+    }
+
     /// Adds bytes at the end. An error says that a growth was refused, and leaves the text as it was.
     pub fn push(&mut self, piece: &[u8]) -> Result<(), AllocError>
         ensures ok { OnOk result (self.new ≡ self.old ++ piece.now) }

@@ -1,0 +1,5 @@
+pub mod Chosen
+pub mod Part
+pub mod Laws
+pub mod Up
+pub mod Zero
