@@ -1,52 +1,47 @@
 -- The operations of the loops of a check arise in the rows that count in a check.
-use Rattle.std.proofs.Common.{◌≡◌, ℕ, ◌<◌, ◌-◌, List, length, map, refl, sym, ◌∙◌, ap, subst, arith, ◌⊎◌, inl, inr, false}
+use Rattle.std.proofs.Common.{◌≡◌, ℕ, ◌<◌, ◌-◌, List, length, map, refl, sym, ◌∙◌, ap, subst, arith, false}
 use Rattle.std.specs.List.{All}
 use Rattle.std.proofs.lemmas.List.{length-map}
-use Rattle.nf_num.specs.Rational.{ℚ}
+use Rattle.nf_num.specs.Rational.{ℚ, ◌*ℚ◌}
+use Rattle.nf_num.specs.Sum.{sum_ℚ}
 use Rattle.nf_frac.specs.declared.Passed.{Passed}
 use Rattle.nf_frac.specs.declared.Op.TheVariants.{Sub}
 use Rattle.nf_model.specs.Program.{Entry, LinearProgram, column, row, entry_at, coefficient, at}
 use Rattle.nf_model.specs.Problem.{RiseBetween, IsProblem}
 use Rattle.nf_model.specs.Certificate.{combined}
+use Rattle.nf_model.specs.Farkas.{combined_right}
 use Rattle.nf_prob.specs.declared.stored.Entry as stored
 use Rattle.nf_prob.specs.declared.stored.RowEntry.{RowEntry}
 use Rattle.nf_prob.specs.Numbers.{entry_of, row_list}
 use Rattle.nf_prob.specs.Stored.{stored_entry, row_entry}
 use Rattle.nf_frac.specs.Range.{Passes}
-use Rattle.nf_prob.specs.Terms.{PassesIn, Is}
-use Rattle.nf_prob.specs.Terms.Term.{Product}
-use Rattle.nf_prob.specs.Rows.{product_terms, remainder_terms}
-use Rattle.nf_prob.specs.Arising.{BestTerms, RowTerms, CostTerms, TotalTerms, cost_row}
-use Rattle.nf_prob.specs.Arising.BestTerms.{rest, reduced_cost, cost}
-use Rattle.nf_prob.proofs.Part.{IsPartOf, same_term}
-use Rattle.nf_prob.proofs.Laws.{carried, wider, remainder_passed, products_of_remainder}
-use Rattle.nf_prob.proofs.ColumnSums.{column_rises, rise_value, rise_apart, stored_is, weight_taken, value_taken}
+use Rattle.nf_sums.specs.Terms.{PassesIn, Is, Terms}
+use Rattle.nf_sums.specs.Steps.{AddsProduct}
+use Rattle.nf_sums.specs.Terms.Term.{Product}
+use Rattle.nf_sums.specs.Rows.{product_terms, rest_terms}
+use Rattle.nf_prob.specs.Arising.{BestTerms, FarkasTerms, RayTerms, RowTerms, CostTerms, TotalTerms, RightTerms, cost_row, gap_row}
+use Rattle.nf_prob.specs.Highest.{highest_at, highest_sum}
+use Rattle.nf_prob.specs.Arising.BestTerms.{rest as best_rest, reduced_cost as best_reduced_cost, cost as best_cost}
+use Rattle.nf_prob.specs.Arising.FarkasTerms.{reduced_cost as farkas_reduced_cost, gap as farkas_gap}
+use Rattle.nf_prob.specs.Arising.RayTerms.{rest as ray_rest, ray_row, rate as ray_rate}
+use Rattle.nf_sums.proofs.Part.{IsPartOf, same_term}
+use Rattle.nf_sums.proofs.Laws.{carried, gap_passed, in_part, left_of_gap, passes_from, product_added, products_of_remainder, remainder_passed, right_of_gap, wider}
+use Rattle.nf_prob.proofs.ColumnSums.{column_rises, rise_value, stored_is, entries_apart, weight_taken, value_taken}
 use Rattle.nf_prob.proofs.Entries.{rise_below}
-use Rattle.nf_prob.proofs.RowSums.{all_rise, numbers_rise, row_list_stands, coefficient_taken, number_taken}
+use Rattle.nf_prob.proofs.RowSums.{row_list_stands, columns_apart, coefficient_taken, number_taken}
 
 -- ---- a row's loop
-less_equal_more : (j k : ℕ) → (j < k) ⊎ ((j ≡ k) ⊎ (k < j))
-less_equal_more j k = grind arith
-
 row_part : (p : LinearProgram) (x : List ℚ) (i : ℕ) (es : List RowEntry) → IsProblem p → es ≡ row_list p i → IsPartOf (product_terms (length es) (coefficient_taken es) (number_taken x es)) (product_terms (length p.columns) (coefficient p i) (at x))
 row_part p x i es q same = subst (λ (l : List RowEntry). IsPartOf (product_terms (length l) (coefficient_taken l) (number_taken x l)) (product_terms (length p.columns) (coefficient p i) (at x))) (sym same) (record {
   place = λ k. (row_entry (row_list p i) k).column - 1;
   within = λ k h. let s = row_list_stands p i k q h in omega (arith, s.from, s.below);
-  apart = λ j k a b e. apart j k a b e (less_equal_more j k);
+  apart = λ j k a b e.
+      let s = row_list_stands p i j q a in
+      let t = row_list_stands p i k q b in
+      columns_apart p i (row_list p i) q refl j k a b (omega (arith, s.from, t.from, e));
   turned = false;
   term = λ k h. same_term _ _ (ap (λ v. Product v (at x ((row_entry (row_list p i) k).column - 1))) (sym (row_list_stands p i k q h).value));
 })
-  where
-    apart : (j k : ℕ) → j < length (row_list p i) → k < length (row_list p i) → (row_entry (row_list p i) j).column - 1 ≡ (row_entry (row_list p i) k).column - 1 → (j < k) ⊎ ((j ≡ k) ⊎ (k < j)) → j ≡ k
-    apart j k a b e (inl h) =
-        let s = row_list_stands p i j q a in
-        let rises : (row_entry (row_list p i) j).column < (row_entry (row_list p i) k).column = numbers_rise 1 i p.columns (all_rise p q) j k h b in
-        absurd (omega (arith, s.from, rises, e))
-    apart j k a b e (inr (inl h)) = h
-    apart j k a b e (inr (inr h)) =
-        let s = row_list_stands p i k q b in
-        let rises : (row_entry (row_list p i) k).column < (row_entry (row_list p i) j).column = numbers_rise 1 i p.columns (all_rise p q) k j h a in
-        absurd (omega (arith, s.from, rises, e))
 
 pub row_passed : (p : LinearProgram) (x : List ℚ) (i : ℕ) (es : List RowEntry) (c : Passed) → IsProblem p → i < length p.rows → es ≡ row_list p i → PassesIn (Is (product_terms (length es) (coefficient_taken es) (number_taken x es))) c → PassesIn (RowTerms p x) c
 row_passed p x i es c q h same =
@@ -58,7 +53,7 @@ column_part : (p : LinearProgram) (y : List ℚ) (j : ℕ) (es : List stored.Ent
 column_part p y j es q h same positive = record {
   place = λ k. (stored_entry es k).row - 1;
   within = λ k b. subst (λ (e : Entry). e.row < length p.rows) (stored_is es k b) (rise_below 0 (length p.rows) (map entry_of es) k _ rise (inside k b));
-  apart = λ k l a b e. rise_apart 0 (length p.rows) (map entry_of es) k l rise (inside k a) (inside l b) (ap (λ (d : Entry). d.row) (stored_is es k a) ∙ e ∙ sym (ap (λ (d : Entry). d.row) (stored_is es l b)));
+  apart = entries_apart p j es q h same;
   turned = false;
   term = λ k b. same_term _ _ (ap (λ v. Product (at y ((stored_entry es k).row - 1)) v) (value k b));
 }
@@ -97,14 +92,53 @@ cost_passed p y j a b c h e d is =
 pub total_passed : (p : LinearProgram) (x : List ℚ) (n : ℕ) (c : Passed) → n ≡ length p.columns → PassesIn (Is (product_terms n (λ j. (column p j).cost) (at x))) c → PassesIn (TotalTerms p x) c
 total_passed p x n c e = subst (λ m. PassesIn (Is (product_terms m (λ j. (column p j).cost) (at x))) c) e
 
+-- the combined right sides, over as many rows as there are
+pub right_passed : (p : LinearProgram) (y : List ℚ) (n : ℕ) (c : Passed) → n ≡ length p.rows → PassesIn (Is (product_terms n (at y) (λ i. (row p i).right))) c → PassesIn (RightTerms p y) c
+right_passed p y n c e = subst (λ m. PassesIn (Is (product_terms m (at y) (λ i. (row p i).right))) c) e
+
 -- ---- into the rows of a check
-pub rest_in_check : (p : LinearProgram) (x y : List ℚ) (c : Passed) → PassesIn (RowTerms p x) c → PassesIn (BestTerms p x y) c
-rest_in_check p x y c =
-    carried (RowTerms p x) (BestTerms p x y) c
-    (λ part w. (remainder_terms (row p w.0).right (length p.columns) (coefficient p w.0) (at x), subst (λ t. IsPartOf t (remainder_terms (row p w.0).right (length p.columns) (coefficient p w.0) (at x))) (sym w.2) (products_of_remainder (row p w.0).right (length p.columns) (coefficient p w.0) (at x)), rest w.0 w.1))
+rest_in : (p : LinearProgram) (x : List ℚ) (R : Terms → Type 0) (c : Passed) → ((i : ℕ) → i < length p.rows → R (rest_terms (row p i).right (length p.columns) (coefficient p i) (at x))) → PassesIn (RowTerms p x) c → PassesIn R c
+rest_in p x R c is_one =
+    carried (RowTerms p x) R c
+    (λ part w. (rest_terms (row p w.0).right (length p.columns) (coefficient p w.0) (at x), subst (λ t. IsPartOf t (rest_terms (row p w.0).right (length p.columns) (coefficient p w.0) (at x))) (sym w.2) (products_of_remainder (row p w.0).right (length p.columns) (coefficient p w.0) (at x)), is_one w.0 w.1))
 
-pub cost_in_check : (p : LinearProgram) (x y : List ℚ) (c : Passed) → PassesIn (CostTerms p y) c → PassesIn (BestTerms p x y) c
-cost_in_check p x y c = wider (CostTerms p y) (BestTerms p x y) c (λ t w. subst (BestTerms p x y) (sym w.2) (reduced_cost w.0 w.1))
+pub rest_in_best : (p : LinearProgram) (x y : List ℚ) (c : Passed) → PassesIn (RowTerms p x) c → PassesIn (BestTerms p x y) c
+rest_in_best p x y c = rest_in p x (BestTerms p x y) c best_rest
 
-pub total_in_check : (p : LinearProgram) (x y : List ℚ) (c : Passed) → PassesIn (TotalTerms p x) c → PassesIn (BestTerms p x y) c
-total_in_check p x y c = wider (TotalTerms p x) (BestTerms p x y) c (λ t w. subst (BestTerms p x y) (sym w) cost)
+pub cost_in_best : (p : LinearProgram) (x y : List ℚ) (c : Passed) → PassesIn (CostTerms p y) c → PassesIn (BestTerms p x y) c
+cost_in_best p x y c = wider (CostTerms p y) (BestTerms p x y) c (λ t w. subst (BestTerms p x y) (sym w.2) (best_reduced_cost w.0 w.1))
+
+pub total_in_best : (p : LinearProgram) (x y : List ℚ) (c : Passed) → PassesIn (TotalTerms p x) c → PassesIn (BestTerms p x y) c
+total_in_best p x y c = wider (TotalTerms p x) (BestTerms p x y) c (λ t w. subst (BestTerms p x y) (sym w) best_cost)
+
+pub cost_in_farkas : (p : LinearProgram) (y : List ℚ) (c : Passed) → PassesIn (CostTerms p y) c → PassesIn (FarkasTerms p y) c
+cost_in_farkas p y c = wider (CostTerms p y) (FarkasTerms p y) c (λ t w. subst (FarkasTerms p y) (sym w.2) (farkas_reduced_cost w.0 w.1))
+
+-- the next column's greatest multiple
+pub greatest_in_farkas : (p : LinearProgram) (y : List ℚ) (j : ℕ) (total a b : ℚ) (c : Passed) → j < length p.columns → total ≡ sum_ℚ j (λ k. combined p y k *ℚ highest_at p (combined p y) k) → a ≡ combined p y j → b ≡ highest_at p (combined p y) j → AddsProduct total a b c → PassesIn (FarkasTerms p y) c
+greatest_in_farkas p y j total a b c h t e d s =
+    in_part (product_terms (length p.columns) (combined p y) (highest_at p (combined p y))) (gap_row p y) (FarkasTerms p y) c
+    (right_of_gap (length p.rows) (at y) (λ i. (row p i).right) (length p.columns) (combined p y) (highest_at p (combined p y)))
+    farkas_gap
+    (product_added (length p.columns) j (combined p y) (highest_at p (combined p y)) total a b c h t e d s)
+
+pub right_in_farkas : (p : LinearProgram) (y : List ℚ) (c : Passed) → PassesIn (RightTerms p y) c → PassesIn (FarkasTerms p y) c
+right_in_farkas p y c a =
+    in_part (product_terms (length p.rows) (at y) (λ i. (row p i).right)) (gap_row p y) (FarkasTerms p y) c
+    (left_of_gap (length p.rows) (at y) (λ i. (row p i).right) (length p.columns) (combined p y) (highest_at p (combined p y)))
+    farkas_gap a
+
+-- the combined right sides less the greatest value
+pub gap_in_farkas : (p : LinearProgram) (y : List ℚ) (a b : ℚ) (c : Passed) → a ≡ combined_right p y → b ≡ highest_sum p (combined p y) → (c ≡ record { op = Sub; left = a; right = b }) × Passes Sub a b → PassesIn (FarkasTerms p y) c
+gap_in_farkas p y a b c e d is =
+    wider (Is (gap_row p y)) (FarkasTerms p y) c (λ t s. subst (FarkasTerms p y) (sym s) farkas_gap)
+    (gap_passed (length p.rows) (at y) (λ i. (row p i).right) (length p.columns) (combined p y) (highest_at p (combined p y)) a b c e d is.0 (passes_from Sub a b c is.0 is.1))
+
+pub rest_in_ray : (p : LinearProgram) (x r : List ℚ) (c : Passed) → PassesIn (RowTerms p x) c → PassesIn (RayTerms p x r) c
+rest_in_ray p x r c = rest_in p x (RayTerms p x r) c ray_rest
+
+pub row_in_ray : (p : LinearProgram) (x r : List ℚ) (c : Passed) → PassesIn (RowTerms p r) c → PassesIn (RayTerms p x r) c
+row_in_ray p x r c = wider (RowTerms p r) (RayTerms p x r) c (λ t w. subst (RayTerms p x r) (sym w.2) (ray_row w.0 w.1))
+
+pub rate_in_ray : (p : LinearProgram) (x r : List ℚ) (c : Passed) → PassesIn (TotalTerms p r) c → PassesIn (RayTerms p x r) c
+rate_in_ray p x r c = wider (TotalTerms p r) (RayTerms p x r) c (λ t w. subst (RayTerms p x r) (sym w) ray_rate)

@@ -1,5 +1,5 @@
 -- A loop over a column's entries stands for the sum over all rows.
-use Rattle.std.proofs.Common.{◌≡◌, ℕ, zero, suc, ◌<◌, ◌≤◌, ◌+◌, ◌-◌, List, [], ◌∷◌, length, map, refl, sym, ◌∙◌, ap, ap₂, subst, arith, None}
+use Rattle.std.proofs.Common.{◌≡◌, ℕ, zero, suc, ◌<◌, ◌≤◌, ◌+◌, ◌-◌, List, [], ◌∷◌, length, map, get_or, refl, sym, ◌∙◌, ap, ap₂, subst, arith, None}
 use Rattle.std.specs.List.{All}
 use Rattle.std.proofs.lemmas.List.{length-map, get_or-map}
 use Rattle.std.proofs.lemmas.List.Elements.{All-get_or}
@@ -13,7 +13,7 @@ use Rattle.nf_model.specs.Program.{Entry, Column, LinearProgram, column, entry, 
 use Rattle.nf_model.specs.Problem.{RiseBetween, IsColumn, IsProblem}
 use Rattle.nf_model.specs.Certificate.{combined}
 use Rattle.nf_prob.specs.declared.stored.Entry as stored
-use Rattle.nf_prob.specs.Numbers.{IsNumber, entry_of}
+use Rattle.nf_prob.specs.Numbers.{AreApart, IsNumber, entry_of}
 use Rattle.nf_prob.specs.Stored.{stored_entry}
 use Rattle.nf_prob.proofs.Entries.{value_at, at_same, at_other, entry_at-nil, entry_at-cons, entry_at-before, rise_at, rise_below}
 
@@ -75,17 +75,31 @@ weight_taken y es k = at y ((stored_entry es k).row - 1)
 abbrev pub value_taken : List stored.Entry → ℕ → ℚ
 value_taken es k = (stored_entry es k).value
 
+stored_rises : (p : LinearProgram) (j : ℕ) (es : List stored.Entry) → IsProblem p → j < length p.columns → map entry_of es ≡ (column p j).entries → RiseBetween 0 (length p.rows) (map entry_of es)
+stored_rises p j es q h same = subst (RiseBetween 0 (length p.rows)) (sym same) (column_rises p j q h)
+
+-- each stored entry is in a row of the problem, and no two are in one
+pub entries_in_range : (p : LinearProgram) (j : ℕ) (es : List stored.Entry) → IsProblem p → j < length p.columns → map entry_of es ≡ (column p j).entries → All (λ e. 0 < e.row) es → All (λ e. IsNumber e.row (length p.rows)) es
+entries_in_range p j es q h same positive k d b =
+    let rising : (get_or (map entry_of es) k (entry_of d)).row < length p.rows = rise_below 0 (length p.rows) (map entry_of es) k (entry_of d) (stored_rises p j es q h same) (omega (arith, b, length-map es entry_of)) in
+    let below : (get_or es k d).row - 1 < length p.rows = subst (λ (e : Entry). e.row < length p.rows) (get_or-map entry_of es k d (entry_of d) b) rising in
+    let above : 0 < (get_or es k d).row = positive k d b in
+    (above, omega (arith, above, below))
+
+pub entries_apart : (p : LinearProgram) (j : ℕ) (es : List stored.Entry) → IsProblem p → j < length p.columns → map entry_of es ≡ (column p j).entries → (k l : ℕ) → k < length es → l < length es → (stored_entry es k).row - 1 ≡ (stored_entry es l).row - 1 → k ≡ l
+entries_apart p j es q h same k l a b e =
+    rise_apart 0 (length p.rows) (map entry_of es) k l (stored_rises p j es q h same) (omega (arith, a, length-map es entry_of)) (omega (arith, b, length-map es entry_of))
+    (ap (λ (d : Entry). d.row) (stored_is es k a) ∙ e ∙ sym (ap (λ (d : Entry). d.row) (stored_is es l b)))
+
+pub rows_apart : (p : LinearProgram) (j : ℕ) (es : List stored.Entry) → IsProblem p → j < length p.columns → map entry_of es ≡ (column p j).entries → AreApart (length es) (λ k. (stored_entry es k).row)
+rows_apart p j es q h same k l a b e = entries_apart p j es q h same k l a b (ap (λ n. n - 1) e)
+
 pub numbers_within : (p : LinearProgram) (y : List ℚ) (j : ℕ) (es : List stored.Entry) → IsProblem p → length y ≡ length p.rows → j < length p.columns → map entry_of es ≡ (column p j).entries → All (λ e. 0 < e.row) es → (k : ℕ) → k < length es → IsNumber (stored_entry es k).row (length y)
-numbers_within p y j es q len h same positive k b =
-    let rise : RiseBetween 0 (length p.rows) (map entry_of es) = subst (RiseBetween 0 (length p.rows)) (sym same) (column_rises p j q h) in
-    let below : (stored_entry es k).row - 1 < length p.rows = subst (λ (e : Entry). e.row < length p.rows) (stored_is es k b) (rise_below 0 (length p.rows) (map entry_of es) k _ rise (omega (arith, b, length-map es entry_of))) in
-    let above : 0 < (stored_entry es k).row = positive k _ b in
-    (above, omega (arith, above, below, len))
+numbers_within p y j es q len h same positive k b = subst (IsNumber (stored_entry es k).row) (sym len) (entries_in_range p j es q h same positive k _ b)
 
 pub combined_taken : (p : LinearProgram) (y : List ℚ) (j : ℕ) (es : List stored.Entry) → IsProblem p → j < length p.columns → map entry_of es ≡ (column p j).entries → sum_ℚ (length es) (λ k. weight_taken y es k *ℚ value_taken es k) ≡ combined p y j
 combined_taken p y j es q h same =
-    let rise : RiseBetween 0 (length p.rows) (map entry_of es) = subst (RiseBetween 0 (length p.rows)) (sym same) (column_rises p j q h) in
     sum_same (length es) _ _ (λ k b. ap (λ (e : Entry). at y e.row *ℚ e.value) (sym (stored_is es k b)))
     ∙ ap (λ n. sum_ℚ n (λ k. at y (entry (map entry_of es) k).row *ℚ (entry (map entry_of es) k).value)) (sym (length-map es entry_of))
-    ∙ sum_by_entries 0 (length p.rows) (at y) (map entry_of es) rise
+    ∙ sum_by_entries 0 (length p.rows) (at y) (map entry_of es) (stored_rises p j es q h same)
     ∙ ap (λ (s : List Entry). sum_ℚ (length p.rows) (λ i. at y i *ℚ entry_at s i)) same

@@ -1,14 +1,12 @@
-pub mod Chosen
-pub mod Part
-pub mod Laws
-pub mod Up
-pub mod Zero
 pub mod Entries
+pub mod Sparse
 pub mod Keeps
 pub mod Storing
 pub mod ByRow
 pub mod ColumnSums
 pub mod RowSums
+pub mod Highest
 pub mod Signs
 pub mod Arises
 pub mod Answered
+pub mod ReducedSums

@@ -13,7 +13,7 @@ use Rattle.nf_num.proofs.Sums.{sum-zero, sum_same, total-nil, total-cons, total_
 use Rattle.nf_model.specs.Program.{Entry, Column, LinearProgram, entry_at, at, coefficient, row_sum}
 use Rattle.nf_model.specs.Problem.{RiseBetween, IsColumn, IsProblem}
 use Rattle.nf_prob.specs.declared.stored.RowEntry.{RowEntry}
-use Rattle.nf_prob.specs.Numbers.{IsNumber, entries_in, gathered, row_list}
+use Rattle.nf_prob.specs.Numbers.{AreApart, IsNumber, entries_in, gathered, row_list}
 use Rattle.nf_prob.specs.Stored.{row_entry}
 use Rattle.nf_prob.proofs.Entries.{at_same, at_other, entry_at-nil, entry_at-cons, entry_at-before}
 use Rattle.nf_prob.proofs.ColumnSums.{sum_front}
@@ -158,5 +158,28 @@ row_sum_taken p x i es q same =
     ∙ total_gathered 1 i (λ c. at x (c - 1)) p.columns (all_rise p q)
     ∙ sum_same (length p.columns) _ _ (λ j b. ap (λ k. coefficient p i j *ℚ at x k) (let e : 1 + j - 1 ≡ j = omega arith in e))
 
+-- each entry is in a column of the problem, and no two are in one
+pub row_entries_in_range : (p : LinearProgram) (i : ℕ) (es : List RowEntry) → IsProblem p → es ≡ row_list p i → All (λ e. IsNumber e.column (length p.columns)) es
+row_entries_in_range p i es q same = subst (All (λ e. IsNumber e.column (length p.columns))) (sym same)
+    (All-weaker (Stands 1 i p.columns) (λ e. IsNumber e.column (length p.columns)) (λ e s. (omega (arith, s.from), omega (arith, s.below))) (row_list p i) (each_stands 1 i p.columns (all_rise p q)))
+
+three_ways : (j k : ℕ) → (j < k) ⊎ ((j ≡ k) ⊎ (k < j))
+three_ways j k = grind arith
+
+columns_of_list_apart : (p : LinearProgram) (i : ℕ) → IsProblem p → AreApart (length (row_list p i)) (λ k. (row_entry (row_list p i) k).column)
+columns_of_list_apart p i q j k a b e = of (three_ways j k)
+  where
+    of : (j < k) ⊎ ((j ≡ k) ⊎ (k < j)) → j ≡ k
+    of (inl h) =
+        let rises : (row_entry (row_list p i) j).column < (row_entry (row_list p i) k).column = numbers_rise 1 i p.columns (all_rise p q) j k h b in
+        absurd (omega (arith, rises, e))
+    of (inr (inl h)) = h
+    of (inr (inr h)) =
+        let rises : (row_entry (row_list p i) k).column < (row_entry (row_list p i) j).column = numbers_rise 1 i p.columns (all_rise p q) k j h a in
+        absurd (omega (arith, rises, e))
+
+pub columns_apart : (p : LinearProgram) (i : ℕ) (es : List RowEntry) → IsProblem p → es ≡ row_list p i → AreApart (length es) (λ k. (row_entry es k).column)
+columns_apart p i es q same = subst (λ (l : List RowEntry). AreApart (length l) (λ k. (row_entry l k).column)) (sym same) (columns_of_list_apart p i q)
+
 pub row_numbers_within : (p : LinearProgram) (x : List ℚ) (i : ℕ) (es : List RowEntry) → IsProblem p → length x ≡ length p.columns → es ≡ row_list p i → (k : ℕ) → k < length es → IsNumber (row_entry es k).column (length x)
-row_numbers_within p x i es q len same = subst (λ (l : List RowEntry). (k : ℕ) → k < length l → IsNumber (row_entry l k).column (length x)) (sym same) (λ k h. let s = row_list_stands p i k q h in (omega (arith, s.from), omega (arith, s.below, len)))
+row_numbers_within p x i es q len same k h = subst (IsNumber (row_entry es k).column) (sym len) (row_entries_in_range p i es q same k _ h)

@@ -1,6 +1,3 @@
-pub mod Terms
-pub mod Rows
-pub mod Steps
 pub mod Numbers
 pub mod Building
 pub mod Lists
@@ -8,5 +5,10 @@ pub mod Stored
 pub mod Finished
 pub mod Unfinished
 pub mod Coding
+pub mod Highest
 pub mod Arising
 pub mod Verdict
+pub mod Greatest
+pub mod Reduced
+pub mod Labels
+pub mod Labelled

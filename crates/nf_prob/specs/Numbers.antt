@@ -1,6 +1,6 @@
 -- Numbers from 1, which calls and entries speak of, against those from 0 of the definitions.
 -- The contracts of Problem and its builder say by these words what a number stands for.
-use Rattle.std.specs.Prelude.{ℕ, zero, suc, ◌-◌, ◌<◌, ◌≤◌, List, [], ◌∷◌, ◌++◌, Option, Some, None, nat_eq, if◌then◌else◌}
+use Rattle.std.specs.Prelude.{◌≡◌, ℕ, zero, suc, ◌-◌, ◌<◌, ◌≤◌, List, [], ◌∷◌, ◌++◌, Option, Some, None, nat_eq, if◌then◌else◌}
 use Rattle.nf_model.specs.Program.{Ends, Column, LinearProgram}
 use Rattle.nf_model.specs.Program as model
 use Rattle.nf_prob.specs.declared.stored.Entry.{Entry}
@@ -9,6 +9,10 @@ use Rattle.nf_prob.specs.declared.stored.RowEntry.{RowEntry}
 -- j is a number from 1 to n.
 abbrev pub IsNumber : ℕ → ℕ → Type 0
 IsNumber j n = (0 < j) × (j ≤ n)
+
+-- No two numbers below n have one place.
+abbrev pub AreApart : ℕ → (ℕ → ℕ) → Type 0
+AreApart n place = (j k : ℕ) → j < n → k < n → place j ≡ place k → j ≡ k
 
 -- The entry that a stored one stands for.
 abbrev pub entry_of : Entry → model.Entry

@@ -2,26 +2,30 @@
 ghost use Rattle.std.specs.Prelude.{◌≡◌, ◌<◌, ◌-◌, ◌↔◌, ℕ, length, IfOk, IfErr, IsTrue, MatchOption};
 ghost use Rattle.nf_num.specs.Rational.{ℚ};
 ghost use Rattle.nf_model.specs.Certificate.{CostFits, DualFits, combined, reduced_cost};
-ghost use Rattle.nf_model.specs.Program.{HoldsBelow, IsInBounds, RowHolds, at, column, cost_of, row_sum};
+ghost use Rattle.nf_model.specs.Program.{HoldsBelow, IsFeasible, IsInBounds, RowHolds, at, column, cost_of, row_sum};
 ghost use Rattle.nf_prob.specs.Arising.{BestTerms, CheckTerms, CostTerms, RowTerms, TotalTerms};
 ghost use Rattle.nf_prob.specs.Numbers.{IsNumber};
 ghost use Rattle.nf_prob.specs.Stored.{row_entry, stored_entry};
-ghost use Rattle.nf_prob.specs.Terms.{PassesIn};
-ghost use Rattle.nf_prob.specs.Verdict.{HasLengths, IsAnswer, IsBestAnswer, IsFirst};
+ghost use Rattle.nf_sums.specs.Terms.{PassesIn};
+ghost use Rattle.nf_prob.specs.Verdict.{FailsFeasible, HasLengths, IsAnswer, IsBestAnswer, IsFirst};
 
 use crate::cert::{Cert, Checked, Why};
+use crate::farkas::verify_farkas;
 use crate::fits::{cost_fits, dual_fits, is_at_least, is_at_most, stands};
 use crate::problem::Problem;
-use crate::sums::sum_products;
+use crate::ray::verify_ray;
 use nf_frac::{Frac, Passed, Steps};
 use nf_model::RowKind;
+use nf_sums::sum_products;
 use std::sync::ledger::Ledger;
 
 /// Checks a certificate, exactly and in linear time.
 ///
-/// `Yes` with the cost exactly where the certificate is valid: its values are then feasible and none cost less.
-/// `No` with the first thing that fails. `Passed` only where an operation passes 128 bits that arises from the
-/// certificate's numbers: in the rest of a row, in a reduced cost, or in the total cost. It takes no memory.
+/// `Yes` exactly where the certificate is valid: with the cost of the values, which are then feasible and none cost
+/// less; with the gap of the duals, and then nothing is feasible; with the rate of the ray, and then feasible costs
+/// have no least. `No` with the first thing that fails. `Passed` only where an operation passes 128 bits that arises
+/// from the certificate's numbers: in the rest of a row, in a reduced cost, in the sum of a row or in a total. It takes
+/// no memory.
 pub fn verify<L: Ledger>(p: &Problem, cert: &Cert, steps: &mut Steps<L>) -> Result<Checked, Passed>
     requires lengths { HasLengths p.now cert.now }
     ensures answer { IfOk result (IsAnswer p.now cert.now) }
@@ -29,6 +33,8 @@ pub fn verify<L: Ledger>(p: &Problem, cert: &Cert, steps: &mut Steps<L>) -> Resu
 {
     match cert {
         Cert::Best { values, duals } => verify_best(p, values.items(), duals.items(), steps),
+        Cert::Farkas { duals } => verify_farkas(p, duals.items(), steps),
+        Cert::Ray { values, ray } => verify_ray(p, values.items(), ray.items(), steps),
     }
 }
 
@@ -43,11 +49,8 @@ fn verify_best<L: Ledger>(
     ensures value { IfOk result (IsBestAnswer p.now x.now y.now) }
     ensures passed { IfErr result (PassesIn (BestTerms p.now x.now y.now)) }
 {
-    if let Some(j) = first_out_of_bounds(p, x) {
-        return Ok(Checked::No(Why::Bound(j)));
-    }
-    if let Some(i) = first_broken_row(p, x, steps)? {
-        return Ok(Checked::No(Why::Row(i)));
+    if let Some(why) = first_infeasible(p, x, steps)? {
+        return Ok(Checked::No(why));
     }
     if let Some(j) = first_unfit_cost(p, x, y, steps)? {
         return Ok(Checked::No(Why::ReducedCost(j)));
@@ -57,6 +60,25 @@ fn verify_best<L: Ledger>(
     }
     let cost = total_cost(p, x, steps)?;
     Ok(Checked::Yes(cost))
+}
+
+// What makes values infeasible, if anything does.
+pub(crate) fn first_infeasible<L: Ledger>(
+    p: &Problem,
+    x: &[Frac],
+    steps: &mut Steps<L>,
+) -> Result<Option<Why>, Passed>
+    requires values { length x.now ≡ length p.now.columns }
+    ensures value { IfOk result (λ r. MatchOption r (IsFeasible p.now x.now) (FailsFeasible p.now x.now)) }
+    ensures passed { IfErr result (PassesIn (RowTerms p.now x.now)) }
+{
+    if let Some(j) = first_out_of_bounds(p, x) {
+        return Ok(Some(Why::Bound(j)));
+    }
+    if let Some(i) = first_broken_row(p, x, steps)? {
+        return Ok(Some(Why::Row(i)));
+    }
+    Ok(None)
 }
 
 fn first_out_of_bounds(p: &Problem, x: &[Frac]) -> Option<u32>
@@ -113,7 +135,7 @@ fn row_holds<L: Ledger>(
     Ok(stands(p.kind_at(i), sum, p.right_at(i)))
 }
 
-fn sum_of_row<L: Ledger>(
+pub(crate) fn sum_of_row<L: Ledger>(
     p: &Problem,
     i: usize,
     x: &[Frac],
@@ -187,7 +209,7 @@ fn reduced_cost_at<L: Ledger>(
     Ok(d)
 }
 
-fn combined_at<L: Ledger>(
+pub(crate) fn combined_at<L: Ledger>(
     p: &Problem,
     j: usize,
     y: &[Frac],
@@ -251,7 +273,11 @@ fn dual_fits_at<L: Ledger>(
     }
 }
 
-fn total_cost<L: Ledger>(p: &Problem, x: &[Frac], steps: &mut Steps<L>) -> Result<Frac, Passed>
+pub(crate) fn total_cost<L: Ledger>(
+    p: &Problem,
+    x: &[Frac],
+    steps: &mut Steps<L>,
+) -> Result<Frac, Passed>
     requires values { length x.now ≡ length p.now.columns }
     ensures value { IfOk result (λ s. s ≡ cost_of p.now x.now) }
     ensures passed { IfErr result (PassesIn (TotalTerms p.now x.now)) }

@@ -1,8 +1,11 @@
 // Tests of one number against bounds, a row or a sign.
-ghost use Rattle.std.specs.Prelude.{◌≡◌, ◌≢◌, ◌↔◌, Some, IsTrue};
-ghost use Rattle.nf_num.specs.Rational.{ℚ, zero_ℚ, ◌≤ℚ◌};
+ghost use Rattle.std.specs.Prelude.{◌≡◌, ◌≢◌, ◌↔◌, None, Some, IsTrue, MatchOption};
+ghost use Rattle.nf_num.specs.Rational.{ℚ, zero_ℚ, ◌≤ℚ◌, ◌<ℚ◌};
 ghost use Rattle.nf_model.specs.Certificate.{IsComplementary, IsSigned, IsSignedByBounds};
+ghost use Rattle.nf_model.specs.Farkas.{IsBounded};
 ghost use Rattle.nf_model.specs.Program.{IsAtLeast, IsAtMost, Stands};
+ghost use Rattle.nf_model.specs.Ray.{IsUnstopped};
+ghost use Rattle.nf_prob.specs.Highest.{highest};
 
 use nf_frac::Frac;
 use nf_model::RowKind;
@@ -14,6 +17,16 @@ fn is_le(a: Frac, b: Frac) -> bool
     match a.cmp(b) {
         Ordering::Less => true,
         Ordering::Equal => true,
+        Ordering::Greater => false,
+    }
+}
+
+pub(crate) fn is_less(a: Frac, b: Frac) -> bool
+    ensures { IsTrue result ↔ (a <ℚ b) }
+{
+    match a.cmp(b) {
+        Ordering::Less => true,
+        Ordering::Equal => false,
         Ordering::Greater => false,
     }
 }
@@ -72,7 +85,7 @@ pub(crate) fn cost_fits(d: Frac, lower: Option<Frac>, upper: Option<Frac>, v: Fr
     }
 }
 
-fn is_signed(kind: RowKind, y: Frac) -> bool
+pub(crate) fn is_signed(kind: RowKind, y: Frac) -> bool
     ensures { IsTrue result ↔ IsSigned kind y }
 {
     match kind {
@@ -89,5 +102,36 @@ pub(crate) fn dual_fits(kind: RowKind, sum: Frac, right: Frac, y: Frac) -> bool
     match kind {
         RowKind::Eq => true,
         _ => is_signed(kind, y) && (is_equal(y, Frac::zero()) || is_equal(sum, right)),
+    }
+}
+
+// Where a number times `w` is greatest within these bounds, or None where it has no greatest value.
+pub(crate) fn place_of_greatest(lower: Option<Frac>, upper: Option<Frac>, w: Frac) -> Option<Frac>
+    ensures { MatchOption result (IsBounded lower upper w → ⊥) (λ place. IsBounded lower upper w × (place ≡ highest lower upper w)) }
+{
+    match w.cmp(Frac::zero()) {
+        Ordering::Less => lower,
+        Ordering::Equal => Some(Frac::zero()),
+        Ordering::Greater => upper,
+    }
+}
+
+fn is_missing(bound: Option<Frac>) -> bool
+    ensures { IsTrue result ↔ (bound ≡ None) }
+{
+    match bound {
+        None => true,
+        Some(_) => false,
+    }
+}
+
+// Whether no bound stops a move by any multiple of `d`.
+pub(crate) fn is_unstopped(d: Frac, lower: Option<Frac>, upper: Option<Frac>) -> bool
+    ensures { IsTrue result ↔ IsUnstopped d lower upper }
+{
+    match d.cmp(Frac::zero()) {
+        Ordering::Less => is_missing(lower),
+        Ordering::Equal => true,
+        Ordering::Greater => is_missing(upper),
     }
 }

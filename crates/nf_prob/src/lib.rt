@@ -4,12 +4,15 @@
 mod builder;
 mod cert;
 mod check;
+mod farkas;
 mod fits;
 mod fracs;
+mod labels;
 mod lists;
 mod problem;
+mod ray;
+mod reduced;
 mod stored;
-mod sums;
 #[cfg(test)]
 mod tests;
 
@@ -17,7 +20,8 @@ pub use builder::ProblemBuilder;
 pub use cert::{Cert, Checked, Why};
 pub use check::verify;
 pub use fracs::Fracs;
+pub use labels::Labels;
 pub use nf_model::RowKind;
 pub use problem::Problem;
+pub use reduced::reduced_by;
 pub use stored::{Entry, RowEntry};
-pub use sums::{add_product, sum_products};

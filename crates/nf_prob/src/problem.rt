@@ -4,8 +4,8 @@ ghost use Rattle.std.specs.List.{All};
 ghost use Rattle.nf_model.specs.Problem.{IsProblem};
 ghost use Rattle.nf_model.specs.Program.{column, row, lower_of, upper_of};
 ghost use Rattle.nf_prob.specs.Lists.{AreGathered};
-ghost use Rattle.nf_prob.specs.Numbers.{IsNumber, entry_of, head_number, row_list, tail_number};
-ghost use Rattle.nf_prob.specs.Stored.{IsStored, column_of, program_from};
+ghost use Rattle.nf_prob.specs.Numbers.{AreApart, IsNumber, entry_of, head_number, row_list, tail_number};
+ghost use Rattle.nf_prob.specs.Stored.{IsStored, column_of, program_from, row_entry, stored_entry};
 
 use crate::stored::{Entry, RowEntry, StoredColumn, StoredRow};
 use nf_frac::Frac;
@@ -147,20 +147,24 @@ impl Problem {
         self.columns[j as usize - 1].head
     }
 
-    /// The entries of a column, by row number: 1 at an arc's tail and -1 at its head, and the side rows' entries.
+    /// The entries of a column, by row number: 1 at an arc's tail and -1 at its head, and the side rows' entries. No
+    /// two are in one row.
     pub fn entries(&self, j: u32) -> &[Entry]
         requires number { IsNumber j (length self.now.columns) }
         ensures entries { map entry_of result.now ≡ (column self.now (j - 1)).entries }
-        ensures numbered { All (λ e. 0 < e.row) result.now }
+        ensures in_range { All (λ e. IsNumber e.row (length self.now.rows)) result.now }
+        ensures apart { AreApart (length result.now) (λ k. (stored_entry result.now k).row) }
         ensures problem { IsProblem self.now }
     {
         self.entries_at(j as usize - 1)
     }
 
-    /// The entries of a row, by column number.
+    /// The entries of a row, by column number. No two are in one column.
     pub fn row_entries(&self, i: u32) -> &[RowEntry]
         requires number { IsNumber i (length self.now.rows) }
         ensures entries { result.now ≡ row_list self.now (i - 1) }
+        ensures in_range { All (λ e. IsNumber e.column (length self.now.columns)) result.now }
+        ensures apart { AreApart (length result.now) (λ k. (row_entry result.now k).column) }
         ensures problem { IsProblem self.now }
     {
         self.row_entries_at(i as usize - 1)

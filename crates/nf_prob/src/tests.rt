@@ -1,4 +1,5 @@
 ghost use Rattle.std.specs.Prelude.{◌≡◌, ◌<◌, length, IfOk};
+ghost use Rattle.nf_num.specs.Rational.{zero_ℚ, ◌≤ℚ◌};
 ghost use Rattle.nf_prob.specs.Verdict.{HasLengths};
 
 use crate::{Cert, Checked, Entry, Fracs, Problem, ProblemBuilder, RowEntry, RowKind, Why, verify};
@@ -24,32 +25,53 @@ fn checked(p: &Problem, cert: &Cert) -> Result<Checked, Passed>
     counted::<Brand>(p, cert, Blank::new(1))
 }
 
-// Minimise 2x over an arc from node 1 with supply 5 to node 2 with demand 5, where 0 <= x, x <= 5 if it is `full`,
-// and the side row 0 >= -1: what the check says of the flow x and the duals of the three rows.
-fn answer(alloc: Global, full: bool, x: i64, duals: (i64, i64, i64)) -> Result<Checked, Fail> {
+// Minimise 2x over an arc from node 1 with supply 5 to node 2 with demand 5, where 0 <= x, x <= `most` if it is `full`,
+// and the side row 0 >= -1.
+fn chain(alloc: Global, most: Frac, full: bool) -> Result<Problem, Fail>
+    requires positive { zero_ℚ ≤ℚ most }
+    ensures columns { IfOk result (λ p. length p.columns ≡ 1) }
+    ensures rows { IfOk result (λ p. length p.rows ≡ 3) }
+{
     let five = Frac::from_whole(5);
     let mut builder = ProblemBuilder::new(alloc, false);
     builder.add_node(five)?;
     builder.add_node(five.neg())?;
     builder.add_row(RowKind::Ge, Frac::from_whole(-1))?;
-    let upper = if full { Some(five) } else { None };
+    let upper = if full { Some(most) } else { None };
     builder.add_column(1, 2, Frac::from_whole(2), Frac::zero(), upper)?;
-    let problem = builder.finish()?;
+    Ok(builder.finish()?)
+}
+
+fn three(alloc: Global, numbers: (i64, i64, i64)) -> Result<Fracs, Fail>
+    ensures { IfOk result (λ fs. length fs ≡ 3) }
+{
+    let mut fracs = Fracs::new(alloc);
+    fracs.push(Frac::from_whole(numbers.0))?;
+    fracs.push(Frac::from_whole(numbers.1))?;
+    fracs.push(Frac::from_whole(numbers.2))?;
+    Ok(fracs)
+}
+
+fn two(alloc: Global, numbers: (i64, i64)) -> Result<Fracs, Fail>
+    ensures { IfOk result (λ fs. length fs ≡ 2) }
+{
+    let mut fracs = Fracs::new(alloc);
+    fracs.push(Frac::from_whole(numbers.0))?;
+    fracs.push(Frac::from_whole(numbers.1))?;
+    Ok(fracs)
+}
+
+// What the check says of the flow x, where `most` is 5, and the duals of the three rows.
+fn best(alloc: Global, full: bool, x: i64, duals: (i64, i64, i64)) -> Result<Checked, Fail> {
+    let problem = chain(alloc, Frac::from_whole(5), full)?;
     let mut values = Fracs::new(alloc);
     values.push(Frac::from_whole(x))?;
-    let mut multipliers = Fracs::new(alloc);
-    multipliers.push(Frac::from_whole(duals.0))?;
-    multipliers.push(Frac::from_whole(duals.1))?;
-    multipliers.push(Frac::from_whole(duals.2))?;
-    let cert = Cert::Best {
-        values,
-        duals: multipliers,
-    };
-    Ok(checked(&problem, &cert)?)
+    let duals = three(alloc, duals)?;
+    Ok(checked(&problem, &Cert::Best { values, duals })?)
 }
 
 #[test]
-fn checks_certificates(rt: HostRuntime) -> Result<(), Fail> {
+fn checks_best(rt: HostRuntime) -> Result<(), Fail> {
     let ten = Checked::Yes(Frac::from_whole(10));
     for (full, x, duals, expected) in [
         (false, 5, (0, -2, 0), ten),
@@ -63,7 +85,65 @@ fn checks_certificates(rt: HostRuntime) -> Result<(), Fail> {
         (false, 5, (0, -2, 1), Checked::No(Why::Dual(3))),
         (false, 5, (0, -2, -1), Checked::No(Why::Dual(3))),
     ] {
-        assert_eq!(rt; answer(rt.alloc(), full, x, duals)?, expected);
+        assert_eq!(rt; best(rt.alloc(), full, x, duals)?, expected);
+    }
+    Ok(())
+}
+
+// What the check says of Farkas duals, where `most` is 3.
+fn farkas(alloc: Global, full: bool, duals: (i64, i64, i64)) -> Result<Checked, Fail> {
+    let problem = chain(alloc, Frac::from_whole(3), full)?;
+    let duals = three(alloc, duals)?;
+    Ok(checked(&problem, &Cert::Farkas { duals })?)
+}
+
+#[test]
+fn checks_farkas(rt: HostRuntime) -> Result<(), Fail> {
+    for (full, duals, expected) in [
+        (true, (1, 0, 0), Checked::Yes(Frac::from_whole(2))),
+        (true, (0, -3, 0), Checked::Yes(Frac::from_whole(6))),
+        (true, (3, 0, 5), Checked::Yes(Frac::from_whole(1))),
+        (true, (1, 0, -1), Checked::No(Why::Dual(3))),
+        (false, (1, 0, 0), Checked::No(Why::Column(1))),
+        (true, (0, 0, 0), Checked::No(Why::Gap(Frac::zero()))),
+        (
+            false,
+            (-1, 0, 0),
+            Checked::No(Why::Gap(Frac::from_whole(-5))),
+        ),
+        (true, (3, 0, 7), Checked::No(Why::Gap(Frac::from_whole(-1)))),
+    ] {
+        assert_eq!(rt; farkas(rt.alloc(), full, duals)?, expected);
+    }
+    Ok(())
+}
+
+// Minimise -x over an arc from node 1 to node 2, 0 <= x, and an arc back, 0 <= y: what the check says of these values and
+// this ray.
+fn ray(alloc: Global, values: (i64, i64), ray: (i64, i64)) -> Result<Checked, Fail> {
+    let mut builder = ProblemBuilder::new(alloc, false);
+    builder.add_node(Frac::zero())?;
+    builder.add_node(Frac::zero())?;
+    builder.add_column(1, 2, Frac::from_whole(-1), Frac::zero(), None)?;
+    builder.add_column(2, 1, Frac::zero(), Frac::zero(), None)?;
+    let problem = builder.finish()?;
+    let values = two(alloc, values)?;
+    let ray = two(alloc, ray)?;
+    Ok(checked(&problem, &Cert::Ray { values, ray })?)
+}
+
+#[test]
+fn checks_rays(rt: HostRuntime) -> Result<(), Fail> {
+    for (values, direction, expected) in [
+        ((0, 0), (1, 1), Checked::Yes(Frac::from_whole(-1))),
+        ((4, 4), (3, 3), Checked::Yes(Frac::from_whole(-3))),
+        ((-1, 0), (1, 1), Checked::No(Why::Bound(1))),
+        ((0, 1), (1, 1), Checked::No(Why::Row(1))),
+        ((0, 0), (1, -1), Checked::No(Why::RayColumn(2))),
+        ((0, 0), (1, 2), Checked::No(Why::RayRow(1))),
+        ((0, 0), (0, 0), Checked::No(Why::Rate(Frac::zero()))),
+    ] {
+        assert_eq!(rt; ray(rt.alloc(), values, direction)?, expected);
     }
     Ok(())
 }

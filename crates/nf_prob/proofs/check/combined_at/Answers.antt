@@ -1,7 +1,7 @@
 use Rattle.std.proofs.Common.{◌∙◌}
 use Rattle.nf_prob.proofs.Arises.{column_passed}
 use Rattle.nf_prob.proofs.ColumnSums.{numbers_within, combined_taken, weight_taken, value_taken}
-use Rattle.nf_prob.proofs.Up.{handed_on}
+use Rattle.nf_sums.proofs.Up.{handed_on}
 use Rattle.nf_prob.proofs.check.combined_at.Goals as goal
 
 pub sum_products-requires : goal.sum_products-requires

@@ -1,5 +1,5 @@
 use Rattle.nf_prob.proofs.Arises.{cost_passed}
-use Rattle.nf_prob.proofs.Up.{handed_on}
+use Rattle.nf_sums.proofs.Up.{handed_on}
 use Rattle.nf_prob.proofs.check.reduced_cost_at.Goals as goal
 
 pub returns-in_err-d-clause-passed : goal.returns-in_err-d-clause-passed

@@ -1,7 +1,7 @@
 use Rattle.std.proofs.Common.{◌∙◌}
 use Rattle.nf_prob.proofs.Arises.{row_passed}
 use Rattle.nf_prob.proofs.RowSums.{row_numbers_within, row_sum_taken, coefficient_taken, number_taken}
-use Rattle.nf_prob.proofs.Up.{handed_on}
+use Rattle.nf_sums.proofs.Up.{handed_on}
 use Rattle.nf_prob.proofs.check.sum_of_row.Goals as goal
 
 pub sum_products-requires : goal.sum_products-requires

@@ -3,7 +3,7 @@ use Rattle.nf_num.specs.Rational.{◌*ℚ◌}
 use Rattle.nf_num.specs.Sum.{sum_ℚ}
 use Rattle.nf_model.specs.Program.{at, column}
 use Rattle.nf_prob.proofs.Arises.{total_passed}
-use Rattle.nf_prob.proofs.Up.{handed_on}
+use Rattle.nf_sums.proofs.Up.{handed_on}
 use Rattle.nf_prob.proofs.check.total_cost.Goals as goal
 
 pub returns-in_err-total-clause-passed : goal.returns-in_err-total-clause-passed

@@ -1,5 +1,0 @@
-use Rattle.nf_prob.proofs.Zero.{zero_test}
-use Rattle.nf_prob.proofs.sums.is_zero.Goals as goal
-
-pub returns : goal.returns
-returns c = zero_test _ _ c.num.ensures.value c.num.ensures.range
