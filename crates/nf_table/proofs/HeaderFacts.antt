@@ -1,5 +1,6 @@
 -- The header of a text: its faults, and the table that follows it.
-use Rattle.std.proofs.Common.{◌≡◌, ◌∙◌, ◌+◌, ◌≤◌, ◌∷◌, ℕ, List, [], Some, None, Ok, Err, true, false, length, refl, ap, arith}
+use Rattle.std.proofs.Common.{◌≡◌, ◌∙◌, ◌+◌, ◌≤◌, ◌∷◌, ℕ, List, [], Some, None, Ok, Err, true, false, length, refl, sym, ap, arith}
+use Rattle.std.proofs.lemmas.List.{drop_all}
 use Rattle.std.proofs.lemmas.Bool.{le-ltb}
 use Rattle.std.specs.List.{list_all}
 use Rattle.std.specs.Str.{is_utf8}
@@ -10,7 +11,8 @@ use Rattle.csv.specs.Records.{Row, fields_of, partial_of}
 use Rattle.nf_io.specs.Held.{most_bytes}
 use Rattle.nf_table.specs.Cut.{grid_of}
 use Rattle.nf_table.specs.Places.{Place, ReadRow, next_of, records_at}
-use Rattle.nf_table.specs.Progress.{HeaderRead, RowsRead}
+use Rattle.nf_table.specs.Grid.{Cells}
+use Rattle.nf_table.specs.Progress.{HeaderRead, RowsRead, rows_held}
 use Rattle.nf_table.specs.Reading.{records_read, repeated_column, rows_read, table_read}
 use Rattle.nf_table.specs.declared.table.TableFault.TheVariants as fault
 use Rattle.nf_table.proofs.RecordFacts.{cells-few, next-shorter, records-fuel, records-none, records-some}
@@ -60,7 +62,7 @@ header-on p q width cells rests h = rw h.cells_are (header-good p q rests h.read
 -- the table of a header and rows that were read
 pub table-good : (p q : Place) (first cells : Row) (width rows : ℕ) → ends_at_end p.state ≡ false → HeaderRead p q width first
     → RowsRead (fields_of first) (records_at q) rows cells → records_read (records_at p) ≡ Ok (grid_of width rows (fields_of cells))
-table-good p q first cells width rows rests h all = header-on p q width first rests h ∙ rw (all.all, h.wide, all.hold.first) refl
+table-good p q first cells width rows rests h all = header-on p q width first rests h ∙ rw (all.all, h.wide, all.hold.first) (ap (λ (t : Cells). Ok (record { header = fields_of first; rows = rows_held (fields_of first) rows cells; hand = t })) (sym (drop_all _ (fields_of cells) (omega (arith, all.hold.size)))))
 
 -- the table of a text is that of the records from its start on
 pub text-records : (bytes : List ℕ) (p : Place) → length bytes ≤ most_bytes → p.state ≡ st.StartRecord → p.left ≡ strip_bom bytes → table_read bytes ≡ records_read (records_at p)

@@ -4,3 +4,5 @@ pub mod HeaderFacts
 pub mod NameFacts
 pub mod RecordFacts
 pub mod RowFacts
+pub mod WriteFacts
+pub mod MakeFacts

@@ -20,7 +20,7 @@ use Rattle.nf_table.proofs.CutFacts.{cut-more, length-cut}
 use Rattle.nf_table.proofs.RecordFacts.{next-shorter, records-none, records-some}
 
 -- the test of one row
-row-read : (header : Cells) (done : List Cells) (r : Cells) (rs : List Cells) → length r ≡ length header → list_all is_utf8 r ≡ true
+pub row-read : (header : Cells) (done : List Cells) (r : Cells) (rs : List Cells) → length r ≡ length header → list_all is_utf8 r ≡ true
     → rows_read header done (r ∷ rs) ≡ rows_read header (done ++ r ∷ []) rs
 unfolding rows_read
 row-read header done r rs wide text = rw (wide, eq-eqb (length header) (length header) refl, text) refl

@@ -8,10 +8,12 @@ use Rattle.std.specs.Str.{IsUtf8, str_eq_ignore_ascii_case}
 abbrev pub Cells : Type 0
 Cells = List (List ℕ)
 
--- What a clause sees of a table.
+-- What a clause sees of a table: its header, its rows, and the cells of the row that is not ended yet. A table that is
+-- begun has no cell in its header.
 pub record Grid : Type 0 where
   pub header : Cells
   pub rows : List Cells
+  pub hand : Cells
 
 -- A cell of a table, where row 0 is the header.
 abbrev pub cell_at : Grid → ℕ → ℕ → List ℕ

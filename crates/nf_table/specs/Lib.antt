@@ -5,3 +5,5 @@ pub mod Places
 pub mod Standing
 pub mod Inside
 pub mod Progress
+pub mod Making
+pub mod Writing

@@ -26,7 +26,7 @@ rows_held header rows cells = rows_cut rows (length header) (drop (length header
 -- The records gave so many rows, whose cells follow those of the header.
 pub record RowsRead (header : Cells) (records : List Cells) (rows : ℕ) (cells : Row) : Type 0 where
   pub hold : CellsHold header rows cells
-  pub all : rows_read header [] records ≡ Ok (record { header = header; rows = rows_held header rows cells })
+  pub all : rows_read header [] records ≡ Ok (record { header = header; rows = rows_held header rows cells; hand = [] })
 
 -- So many rows were read, and what the records give is what the rest of them gives after these rows.
 pub record RowsOn (header : Cells) (records : List Cells) (rows : ℕ) (p : Place) (cells : Row) : Type 0 where

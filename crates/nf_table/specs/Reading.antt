@@ -21,7 +21,7 @@ repeated_column header = repeated_after [] header
 
 -- The rows after the header, each as long as it and each of text.
 unfoldable pub rows_read : Cells → List Cells → List Cells → Result Grid TableFault
-rows_read header done [] = Ok (record { header = header; rows = done })
+rows_read header done [] = Ok (record { header = header; rows = done; hand = [] })
 rows_read header done (r ∷ rs) =
     if length r == length header then (if list_all is_utf8 r then rows_read header (done ++ r ∷ []) rs else Err (fault.NotText (length done + 1)))
     else Err (fault.RowLength (length done + 1))

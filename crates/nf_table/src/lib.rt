@@ -5,9 +5,11 @@ mod header;
 mod reading;
 mod records;
 mod table;
+mod writing;
 
 pub use reading::read_table;
 pub use table::{Table, TableFault};
+pub use writing::write_table;
 
 #[cfg(test)]
 mod tests;

@@ -1,16 +1,17 @@
-//! A table that was read, and why a text is none.
-ghost use Rattle.std.specs.Prelude.{true, ◌≡◌, ◌≤◌, ◌<◌, ◌+◌, ◌*◌, [], None, length, take};
+//! A table, and why a text is none.
+ghost use Rattle.std.specs.Prelude.{true, ◌≡◌, ◌≤◌, ◌<◌, ◌+◌, ◌*◌, ◌^◌, [], None, IfOk, IfErr, length, take};
 ghost use Rattle.std.specs.List.{list_all};
-ghost use Rattle.std.specs.Str.{is_utf8};
+ghost use Rattle.std.specs.Str.{IsUtf8, is_utf8};
 ghost use Rattle.csv.specs.Records.{fields_of, partial_of};
 ghost use Rattle.nf_table.specs.Cut.{grid_of};
 ghost use Rattle.nf_table.specs.Grid.{HasOwnNames, IsEven, IsText, cell_at, column_of};
+ghost use Rattle.nf_table.specs.Making.{RowMayEnd, empty_table, with_cell, with_row_ended};
 ghost use Rattle.nf_table.specs.Reading.{repeated_column};
 
 use crate::header::is_same_name;
 use csv::ByteRecord;
 use nf_io::Text;
-use std::alloc::AllocError;
+use std::alloc::{AllocError, Global};
 use std::marker::Model;
 use thiserror::Error;
 
@@ -47,14 +48,17 @@ impl From<AllocError> for TableFault {
     }
 }
 
-/// A header, and rows of as many cells. Each cell is UTF-8, and no two cells of the header are equal without regard to
-/// ASCII case. `width` tells so.
+/// A header, and rows of as many cells, and a row in hand while it is made. Each cell is UTF-8, and no two cells of the
+/// header are equal without regard to ASCII case. `width` tells so.
 #[derive(Drop)]
 pub struct Table {
-    // The cells of the header and then of each row.
+    // The cells of the header and then of each row, and at last those in hand.
     cells: ByteRecord,
     width: u32,
     rows: u32,
+    hand: u32,
+    // Memory was refused in the middle of a cell, so nothing more is taken.
+    spent: bool,
 }
 
 impl Model for Table {
@@ -78,7 +82,64 @@ impl Table {
         requires names { repeated_column (take width (fields_of cells)) ≡ None }
         ensures { result ≡ grid_of width rows (fields_of cells) }
     {
-        Table { cells, width, rows }
+        Table {
+            cells,
+            width,
+            rows,
+            hand: 0,
+            spent: false,
+        }
+    }
+
+    /// A table without header and rows. It takes no memory.
+    pub fn new(alloc: Global) -> Table
+        ensures { result ≡ empty_table }
+    {
+        Table {
+            cells: ByteRecord::new(alloc),
+            width: 0,
+            rows: 0,
+            hand: 0,
+            spent: false,
+        }
+    }
+
+    /// Adds a cell to the row in hand. `AllocError` where there is no memory: the table is as it was, and takes no cell
+    /// any more.
+    pub fn push_cell(&mut self, cell: &[u8]) -> Result<(), AllocError>
+        requires text { IsUtf8 cell.now }
+        requires room { length self.old.hand < 2 ^ 31 }
+        ensures added { IfOk result (λ _. self.new ≡ with_cell self.old cell.now) }
+        ensures kept { IfErr result (λ _. self.new ≡ self.old) }
+    {
+        if self.spent {
+            return Err(AllocError);
+        }
+        match self.cells.push_field(cell) {
+            Ok(()) => {
+                self.hand += 1;
+                Ok(())
+            }
+            Err(refused) => {
+                self.spent = true;
+                Err(refused)
+            }
+        }
+    }
+
+    /// Ends the row in hand: it is the header where there is none yet, else the next row.
+    pub fn end_row(&mut self) -> Result<(), AllocError>
+        requires may_end { RowMayEnd self.old }
+        ensures added { IfOk result (λ _. self.new ≡ with_row_ended self.old) }
+        ensures kept { IfErr result (λ _. self.new ≡ self.old) }
+    {
+        if self.width == 0 {
+            self.width = self.hand;
+        } else {
+            self.rows += 1;
+        }
+        self.hand = 0;
+        Ok(())
     }
 
     /// How many rows it has, without the header.
@@ -96,6 +157,15 @@ impl Table {
         ensures names { HasOwnNames self.now.header }
     {
         self.width
+    }
+
+    // What a table keeps, for the proof that its text is read back. It computes nothing.
+    pub(crate) fn kept(&self)
+        ensures even { IsEven self.now }
+        ensures text { IsText self.now }
+        ensures names { repeated_column self.now.header ≡ None }
+    {
+        let _cells = &self.cells;
     }
 
     /// The number of the column with this name, from 0, or None where no cell of the header equals it without regard to
