@@ -12,8 +12,8 @@ use Rattle.nf_arcs.specs.Network.{network_of, network_read}
 
 -- from a to b, 2 a unit, any number; a has 1 to send and b wants 1
 pub one_arc :
-    network_read (record { header = arc_header; rows = (codes "a" ∷ codes "b" ∷ codes "2" ∷ codes "inf" ∷ []) ∷ [] })
-    (record { header = node_header; rows = (codes "b" ∷ codes "-1" ∷ []) ∷ (codes "a" ∷ codes " 1 " ∷ []) ∷ [] })
+    network_read (record { header = arc_header; rows = (codes "a" ∷ codes "b" ∷ codes "2" ∷ codes "inf" ∷ []) ∷ []; hand = [] })
+    (record { header = node_header; rows = (codes "b" ∷ codes "-1" ∷ []) ∷ (codes "a" ∷ codes " 1 " ∷ []) ∷ []; hand = [] })
     ≡ Ok (record {
       columns = record {
         cost = frac (pos 2000) 1000;
@@ -32,8 +32,8 @@ one_arc = refl
 
 -- from a to itself, -3 a unit, at most 5; c is a node of NODEDATA alone
 pub self_loop :
-    network_read (record { header = arc_header; rows = (codes "a" ∷ codes "a" ∷ codes "-3" ∷ codes "5" ∷ []) ∷ [] })
-    (record { header = node_header; rows = (codes "c" ∷ codes "-0" ∷ []) ∷ [] })
+    network_read (record { header = arc_header; rows = (codes "a" ∷ codes "a" ∷ codes "-3" ∷ codes "5" ∷ []) ∷ []; hand = [] })
+    (record { header = node_header; rows = (codes "c" ∷ codes "-0" ∷ []) ∷ []; hand = [] })
     ≡ Ok (record {
       columns = record {
         cost = frac (neg_ℤ (pos 3000)) 1000;
@@ -52,13 +52,13 @@ self_loop = refl
 
 -- two arcs with the same ends
 pub repeated_arc :
-    network_read (record { header = arc_header; rows = (codes "a" ∷ codes "b" ∷ codes "1" ∷ codes "1" ∷ []) ∷ (codes "a" ∷ codes " b" ∷ codes "2" ∷ codes "2" ∷ []) ∷ [] })
-    (record { header = node_header; rows = [] }) ≡ Err ArcForm
+    network_read (record { header = arc_header; rows = (codes "a" ∷ codes "b" ∷ codes "1" ∷ codes "1" ∷ []) ∷ (codes "a" ∷ codes " b" ∷ codes "2" ∷ codes "2" ∷ []) ∷ []; hand = [] })
+    (record { header = node_header; rows = []; hand = [] }) ≡ Err ArcForm
 unfolding network_read has_arc_form are_read are_apart arc_read amount_read
 repeated_arc = refl
 
 -- more is sent than wanted
 pub unbalanced :
-    network_read (record { header = arc_header; rows = [] }) (record { header = node_header; rows = (codes "a" ∷ codes "2" ∷ []) ∷ (codes "b" ∷ codes "-1" ∷ []) ∷ [] }) ≡ Err NodeForm
+    network_read (record { header = arc_header; rows = []; hand = [] }) (record { header = node_header; rows = (codes "a" ∷ codes "2" ∷ []) ∷ (codes "b" ∷ codes "-1" ∷ []) ∷ []; hand = [] }) ≡ Err NodeForm
 unfolding network_read has_arc_form has_node_form are_read are_apart node_row_read amount_read first_seen
 unbalanced = refl

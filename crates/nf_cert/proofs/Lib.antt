@@ -3,4 +3,7 @@ pub mod RowFacts
 pub mod PartFacts
 pub mod WholeFacts
 pub mod ReadFacts
+pub mod TextFacts
+pub mod GrowFacts
+pub mod BackFacts
 mod Examples

@@ -25,7 +25,7 @@ other-row table above i r there e = rw (there, e) refl
 -- the row that is due
 pub due-row : (table : List CertRow) (above : ℕ) (i : Item) (r : CertRow) → slice_get table above ≡ Some r → is_of i r ≡ true
     → HasValue table above i r.value
-due-row table above i r there e = record { row = r; there = there; value = refl; fault = rw (there, e) refl }
+due-row table above i r there e = record { row = r; there = there; due = e; value = refl; fault = rw (there, e) refl }
 
 -- what the test of an item says of a row
 pub told : (i : Item) (r : CertRow) (name number : List ℕ) (b : Bool) → name ≡ r.name → number ≡ r.number

@@ -9,6 +9,8 @@ use Rattle.nf_cert.specs.declared.item.Kind.{Kind}
 use Rattle.nf_cert.specs.declared.item.Kind.TheVariants as kind
 use Rattle.nf_cert.specs.declared.item.Item.{Item}
 use Rattle.nf_cert.specs.declared.columns.Columns.{Columns}
+use Rattle.nf_cert.specs.declared.verdict.Verdict.{Verdict}
+use Rattle.nf_cert.specs.declared.verdict.Verdict.TheVariants as verdict
 
 -- The three cells of a row, without the spaces at both ends.
 pub record CertRow : Type 0 where
@@ -24,17 +26,19 @@ cert_row at_columns cells = record {
   value = value_of (get_or cells at_columns.value []);
 }
 
--- The word of a row: VERDICT, COL for a column's value, ROW for a row's dual.
+-- The word of a row: VERDICT, COL for a column's value, ROW for a row's dual, RAY for a column's part of the ray.
 abbrev pub word : Kind → List ℕ
 word kind.Verdict = codes "VERDICT"
 word kind.Column = codes "COL"
 word kind.Row = codes "ROW"
+word kind.Ray = codes "RAY"
 
 -- A row of a kind whose value is a fraction: not the verdict.
 abbrev pub HoldsFrac : Kind → Type 0
 HoldsFrac kind.Verdict = ⊥
 HoldsFrac kind.Column = Unit {0}
 HoldsFrac kind.Row = Unit {0}
+HoldsFrac kind.Ray = Unit {0}
 
 -- The item of a kind and a number.
 abbrev pub item : Kind → ℕ → Item
@@ -44,9 +48,16 @@ item k n = record { kind = k; number = n }
 unfoldable pub items : Kind → ℕ → List Item
 items k count = map (item k) (range_with_len 1 count)
 
--- The rows that a certificate of optimality has: the verdict, the value of each column, the dual of each row.
-unfoldable pub items_of : ℕ → ℕ → List Item
-items_of columns rows = item kind.Verdict 1 ∷ items kind.Column columns ++ items kind.Row rows
+-- The verdict, so many values of columns, and so many rows of another kind.
+unfoldable pub items_with : ℕ → Kind → ℕ → List Item
+items_with values k others = item kind.Verdict 1 ∷ items kind.Column values ++ items k others
+
+-- The rows that a certificate of a verdict has: where it is OPTIMAL the value of each column and the dual of each row,
+-- where INFEASIBLE the duals alone, where UNBOUNDED the values and the ray.
+abbrev pub items_of : Verdict → ℕ → ℕ → List Item
+items_of verdict.Optimal columns rows = items_with columns kind.Row rows
+items_of verdict.Infeasible columns rows = items_with 0 kind.Row rows
+items_of verdict.Unbounded columns rows = items_with columns kind.Ray columns
 
 -- A row is the one of an item where it has the item's word, and its number in decimal digits.
 abbrev pub is_of : Item → CertRow → Bool

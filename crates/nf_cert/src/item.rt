@@ -10,9 +10,10 @@ pub(crate) enum Kind {
     Verdict,
     Column,
     Row,
+    Ray,
 }
 
-/// A row of a certificate: what it says, and of the column or row of which number, from 1.
+/// A row of a certificate: what it says, and of which column or row, by its number from 1.
 #[derive(Clone, Copy)]
 pub(crate) struct Item {
     pub(crate) kind: Kind,
@@ -23,13 +24,14 @@ impl Kind {
     ghost use Rattle.nf_cert.specs.Items.{word};
 
     // The word in the first column.
-    fn word(self) -> &'static [u8]
+    pub(crate) fn word(self) -> &'static str
         ensures { result.now ≡ word self }
     {
         match self {
-            Kind::Verdict => b"VERDICT",
-            Kind::Column => b"COL",
-            Kind::Row => b"ROW",
+            Kind::Verdict => "VERDICT",
+            Kind::Column => "COL",
+            Kind::Row => "ROW",
+            Kind::Ray => "RAY",
         }
     }
 }
@@ -41,6 +43,7 @@ impl Item {
     pub(crate) fn is_told(self, name: &[u8], number: &[u8]) -> bool
         ensures { result ≡ (bytes_eq name.now (word self.kind) && bytes_eq number.now (decimal self.number)) }
     {
-        name == self.kind.word() && number == Buffer::new().format(self.number).as_bytes()
+        name == self.kind.word().as_bytes()
+            && number == Buffer::new().format(self.number).as_bytes()
     }
 }

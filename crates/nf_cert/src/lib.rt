@@ -1,4 +1,4 @@
-//! Certificates as tables: the claim that a solution is the best one, with the numbers that show it.
+//! Certificates as tables: what is claimed of a problem, with the numbers that prove it.
 #![tactic(auto)]
 
 mod columns;
@@ -8,6 +8,9 @@ mod reading;
 mod rows;
 #[cfg(test)]
 mod tests;
+mod verdict;
+mod writing;
 
 pub use fault::CertFault;
-pub use reading::read_cert;
+pub use reading::{read_best, read_cert};
+pub use writing::cert_table;

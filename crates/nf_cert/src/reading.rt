@@ -1,26 +1,27 @@
 //! Reading a certificate's table.
-ghost use Rattle.std.specs.Prelude.{◌≡◌, ◌⊎◌, ◌<◌, ◌+◌, ◌-◌, ◌^◌, Err, IfOk, length};
+ghost use Rattle.std.specs.Prelude.{◌≡◌, ◌⊎◌, ◌≤◌, ◌^◌, Err, IfOk, length};
 ghost use Rattle.nf_prob.specs.Verdict.{HasLengths};
-ghost use Rattle.nf_cert.specs.Reading.{cert_read};
-ghost use Rattle.nf_cert.specs.Steps.{HasSizes};
+ghost use Rattle.nf_cert.specs.Reading.{best_read, cert_read};
+ghost use Rattle.nf_cert.specs.Steps.{HasSizes, IsBestOf};
 
 use crate::columns::Columns;
 use crate::fault::CertFault;
-use crate::rows::read_rows;
+use crate::rows::{read_optimal_rows, read_rows};
 use nf_prob::{Cert, Problem};
 use nf_table::Table;
 use std::alloc::Global;
 
 /// The certificate that a table gives for a problem.
 ///
-/// The table has the columns `_ITEM_`, `_NUMBER_` and `_VALUE_`, in any order and any case. Its rows
-/// are, in this order, `VERDICT,1,OPTIMAL`, then `COL,j,value` for each column of the problem from 1,
-/// then `ROW,i,dual` for each of its rows from 1. Spaces at both ends of a cell do not count.
+/// The table has the columns `_ITEM_`, `_NUMBER_` and `_VALUE_`, in any order and any case. Its rows are, in this order,
+/// `VERDICT,1,` with `OPTIMAL`, `INFEASIBLE` or `UNBOUNDED`; but for `INFEASIBLE` `COL,j,value` for each column of the
+/// problem from 1; but for `UNBOUNDED` `ROW,i,dual` for each of its rows from 1; and for `UNBOUNDED` alone
+/// `RAY,j,direction` for each column. Spaces at both ends of a cell do not count.
 ///
-/// `NoColumn` is the first of the three columns that is not there. Then the first row at fault is
-/// told: `UnknownRow` where it is not the one that is due, or its verdict is not `OPTIMAL`, or it is
-/// one too many; `Number` where it is due, but its value is no fraction's text; `MissingRow` where the
-/// table ends before it. `NoMemory` where memory is refused.
+/// `NoColumn` is the first of the three columns that is not there. Then the first row at fault is told: `UnknownRow`
+/// where it is not the one that is due, or its verdict is none of the three, or it is one too many; `Number` where it
+/// is due, but its value is no fraction's text; `MissingRow` where the table ends before it. `NoMemory` where memory is
+/// refused.
 pub fn read_cert(alloc: Global, table: &Table, p: &Problem) -> Result<Cert, CertFault>
     ensures answer { (result ≡ Err CertFault.NoMemory) ⊎ (result ≡ cert_read table.now (length p.now.columns) (length p.now.rows)) }
     ensures lengths { IfOk result (HasLengths p.now) }
@@ -35,7 +36,8 @@ pub(crate) fn read_counted(
     columns: u32,
     rows: u32,
 ) -> Result<Cert, CertFault>
-    requires few { columns + rows < 2 ^ 32 - 2 }
+    requires few_columns { columns ≤ 2 ^ 30 }
+    requires few_rows { rows ≤ 2 ^ 30 }
     ensures answer { (result ≡ Err CertFault.NoMemory) ⊎ (result ≡ cert_read table.now columns rows) }
     ensures sizes { IfOk result (HasSizes columns rows) }
 {
@@ -44,4 +46,29 @@ pub(crate) fn read_counted(
         Err(fault) => return Err(fault),
     };
     read_rows(alloc, table, at, columns, rows)
+}
+
+/// The certificate of optimality that a table gives for a problem: as `read_cert`, but any other verdict makes the first
+/// row an unknown one.
+pub fn read_best(alloc: Global, table: &Table, p: &Problem) -> Result<Cert, CertFault>
+    ensures answer { (result ≡ Err CertFault.NoMemory) ⊎ (result ≡ best_read table.now (length p.now.columns) (length p.now.rows)) }
+    ensures lengths { IfOk result (HasLengths p.now) }
+    ensures best { IfOk result (IsBestOf (length p.now.columns) (length p.now.rows)) }
+{
+    best_counted(alloc, table, p.columns(), p.rows())
+}
+
+// The certificate of optimality that a table gives for a problem of so many columns and rows.
+fn best_counted(alloc: Global, table: &Table, columns: u32, rows: u32) -> Result<Cert, CertFault>
+    requires few_columns { columns ≤ 2 ^ 30 }
+    requires few_rows { rows ≤ 2 ^ 30 }
+    ensures answer { (result ≡ Err CertFault.NoMemory) ⊎ (result ≡ best_read table.now columns rows) }
+    ensures sizes { IfOk result (HasSizes columns rows) }
+    ensures best { IfOk result (IsBestOf columns rows) }
+{
+    let at = match Columns::find(alloc, table) {
+        Ok(at) => at,
+        Err(fault) => return Err(fault),
+    };
+    read_optimal_rows(alloc, table, at, columns, rows)
 }

@@ -1,14 +1,14 @@
 //! The rows of a certificate, read one after the other.
-ghost use Rattle.std.specs.Prelude.{◌≡◌, ◌⊎◌, ◌<◌, ◌≤◌, ◌+◌, ◌-◌, ◌^◌, map, length, Some, None, Ok, Err, IfOk, MatchResult};
-ghost use Rattle.nf_cert.specs.declared.item.Kind.TheVariants as kind;
+ghost use Rattle.std.specs.Prelude.{◌≡◌, ◌⊎◌, ◌<◌, ◌≤◌, ◌+◌, ◌-◌, ◌^◌, map, length, slice_get, Some, None, Ok, Err, IfOk, MatchResult};
 ghost use Rattle.nf_cert.specs.Inside.{IsInside};
-ghost use Rattle.nf_cert.specs.Items.{HoldsFrac, cert_row, item};
-ghost use Rattle.nf_cert.specs.Rows.{rows_read};
-ghost use Rattle.nf_cert.specs.Steps.{HasFrac, HasFracs, HasSizes, HasValue, fault_below, first_in};
+ghost use Rattle.nf_cert.specs.Items.{HoldsFrac, cert_row, item, items_with};
+ghost use Rattle.nf_cert.specs.Rows.{first_fault, optimal_read, rows_read, verdict_of};
+ghost use Rattle.nf_cert.specs.Steps.{HasFrac, HasFracs, HasLists, HasSizes, HasValue, HasVerdict, IsBestOf, fault_below, first_in};
 
 use crate::columns::Columns;
 use crate::fault::CertFault;
 use crate::item::{Item, Kind};
+use crate::verdict::Verdict;
 use nf_cells::trimmed;
 use nf_frac::{Frac, read_frac};
 use nf_prob::{Cert, Fracs};
@@ -40,25 +40,22 @@ fn value_below<'a>(
     Ok(trimmed(table.cell(row, at.value)))
 }
 
-// Tests that the first row says OPTIMAL.
-fn check_verdict(table: &Table, at: Columns) -> Result<(), CertFault>
+// The verdict of the first row.
+fn read_verdict(table: &Table, at: Columns) -> Result<Verdict, CertFault>
     requires inside { IsInside at (length table.now.header) }
     ensures { MatchResult result
-        (λ _. fault_below (map (cert_row at) table.now.rows) 0 (item kind.Verdict 1) ≡ None)
-        (λ e. fault_below (map (cert_row at) table.now.rows) 0 (item kind.Verdict 1) ≡ Some e) }
+        (HasVerdict (map (cert_row at) table.now.rows))
+        (λ e. verdict_of (slice_get (map (cert_row at) table.now.rows) 0) ≡ Err e) }
 {
     let verdict = Item {
         kind: Kind::Verdict,
         number: 1,
     };
     match value_below(table, at, 0, verdict) {
-        Ok(value) => {
-            if value == b"OPTIMAL".as_slice() {
-                Ok(())
-            } else {
-                Err(CertFault::UnknownRow(1))
-            }
-        }
+        Ok(word) => match Verdict::of_word(word) {
+            Some(verdict) => Ok(verdict),
+            None => Err(CertFault::UnknownRow(1)),
+        },
         Err(fault) => Err(fault),
     }
 }
@@ -111,6 +108,45 @@ fn fracs_below(
     Ok(fracs)
 }
 
+// The fractions of the rows behind the verdict: values of columns, and others.
+#[derive(Drop)]
+struct Lists {
+    values: Fracs,
+    others: Fracs,
+}
+
+// The rows behind the verdict: so many values of columns, so many of another kind, and no more.
+fn read_lists(
+    alloc: Global,
+    table: &Table,
+    at: Columns,
+    columns: u32,
+    kind: Kind,
+    count: u32,
+) -> Result<Lists, CertFault>
+    requires inside { IsInside at (length table.now.header) }
+    requires small { columns + count < 2 ^ 32 - 2 }
+    requires kind { HoldsFrac kind }
+    requires verdict { fault_below (map (cert_row at) table.now.rows) 0 (item Kind.Verdict 1) ≡ None }
+    ensures { MatchResult result
+        (HasLists (map (cert_row at) table.now.rows) columns kind count)
+        (λ e. (e ≡ CertFault.NoMemory) ⊎ (first_fault (items_with columns kind count) (map (cert_row at) table.now.rows) ≡ Some e)) }
+{
+    let values = match fracs_below(alloc, table, at, 1, Kind::Column, columns) {
+        Ok(values) => values,
+        Err(fault) => return Err(fault),
+    };
+    let others = match fracs_below(alloc, table, at, 1 + columns, kind, count) {
+        Ok(others) => others,
+        Err(fault) => return Err(fault),
+    };
+    let last = 1 + columns + count;
+    if last < table.rows() {
+        return Err(CertFault::UnknownRow(last + 1));
+    }
+    Ok(Lists { values, others })
+}
+
 // The certificate of a problem of so many columns and rows.
 pub(crate) fn read_rows(
     alloc: Global,
@@ -120,25 +156,65 @@ pub(crate) fn read_rows(
     rows: u32,
 ) -> Result<Cert, CertFault>
     requires inside { IsInside at (length table.now.header) }
-    requires small { columns + rows < 2 ^ 32 - 2 }
+    requires few_columns { columns ≤ 2 ^ 30 }
+    requires few_rows { rows ≤ 2 ^ 30 }
     ensures answer { (result ≡ Err CertFault.NoMemory) ⊎ (result ≡ rows_read columns rows (map (cert_row at) table.now.rows)) }
     ensures sizes { IfOk result (HasSizes columns rows) }
 {
-    match check_verdict(table, at) {
-        Ok(()) => {}
-        Err(fault) => return Err(fault),
-    }
-    let values = match fracs_below(alloc, table, at, 1, Kind::Column, columns) {
-        Ok(values) => values,
+    let verdict = match read_verdict(table, at) {
+        Ok(verdict) => verdict,
         Err(fault) => return Err(fault),
     };
-    let duals = match fracs_below(alloc, table, at, 1 + columns, Kind::Row, rows) {
-        Ok(duals) => duals,
+    match verdict {
+        Verdict::Optimal => match read_lists(alloc, table, at, columns, Kind::Row, rows) {
+            Ok(Lists { values, others }) => Ok(Cert::Best {
+                values,
+                duals: others,
+            }),
+            Err(fault) => Err(fault),
+        },
+        Verdict::Infeasible => match read_lists(alloc, table, at, 0, Kind::Row, rows) {
+            Ok(Lists { values: _, others }) => Ok(Cert::Farkas { duals: others }),
+            Err(fault) => Err(fault),
+        },
+        Verdict::Unbounded => match read_lists(alloc, table, at, columns, Kind::Ray, columns) {
+            Ok(Lists { values, others }) => Ok(Cert::Ray {
+                values,
+                ray: others,
+            }),
+            Err(fault) => Err(fault),
+        },
+    }
+}
+
+// The same where optimality alone may be claimed: another verdict makes the first row an unknown one.
+pub(crate) fn read_optimal_rows(
+    alloc: Global,
+    table: &Table,
+    at: Columns,
+    columns: u32,
+    rows: u32,
+) -> Result<Cert, CertFault>
+    requires inside { IsInside at (length table.now.header) }
+    requires few_columns { columns ≤ 2 ^ 30 }
+    requires few_rows { rows ≤ 2 ^ 30 }
+    ensures answer { (result ≡ Err CertFault.NoMemory) ⊎ (result ≡ optimal_read columns rows (map (cert_row at) table.now.rows)) }
+    ensures sizes { IfOk result (HasSizes columns rows) }
+    ensures best { IfOk result (IsBestOf columns rows) }
+{
+    let verdict = match read_verdict(table, at) {
+        Ok(verdict) => verdict,
         Err(fault) => return Err(fault),
     };
-    let last = 1 + columns + rows;
-    if last < table.rows() {
-        return Err(CertFault::UnknownRow(last + 1));
+    match verdict {
+        Verdict::Optimal => match read_lists(alloc, table, at, columns, Kind::Row, rows) {
+            Ok(Lists { values, others }) => Ok(Cert::Best {
+                values,
+                duals: others,
+            }),
+            Err(fault) => Err(fault),
+        },
+        Verdict::Infeasible => Err(CertFault::UnknownRow(1)),
+        Verdict::Unbounded => Err(CertFault::UnknownRow(1)),
     }
-    Ok(Cert::Best { values, duals })
 }

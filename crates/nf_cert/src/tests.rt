@@ -1,15 +1,18 @@
+ghost use Rattle.std.specs.Prelude.{◌≡◌, IfOk, length};
+
 use crate::CertFault;
 use crate::reading::{read_cert, read_counted};
+use crate::writing::cert_table;
 use nf_frac::Frac;
 use nf_io::Text;
-use nf_prob::{Cert, Fracs, ProblemBuilder};
-use nf_table::read_table;
+use nf_prob::{Cert, Fracs, Problem, ProblemBuilder};
+use nf_table::{read_table, write_table};
 use std::alloc::Global;
 use std::str;
 use std::test::Fail;
 
 // Rows below the header `_ITEM_,_NUMBER_,_VALUE_`, and what they are read as for one column and two rows.
-const ROWS: [(&str, &str); 24] = [
+const ROWS: [(&str, &str); 31] = [
     (
         "VERDICT,1,OPTIMAL\nCOL,1,5\nROW,1,0\nROW,2,-2\n",
         "5 | 0 -2",
@@ -24,7 +27,20 @@ const ROWS: [(&str, &str); 24] = [
     ),
     ("", "MissingRow 1"),
     ("VERDICT,1,optimal\n", "UnknownRow 1"),
-    ("VERDICT,1,INFEASIBLE\nROW,1,0\n", "UnknownRow 1"),
+    ("VERDICT,1,FEASIBLE\nROW,1,0\n", "UnknownRow 1"),
+    (
+        "VERDICT,1,INFEASIBLE\nROW,1,1\nROW,2,-1/2\n",
+        "none | 1 -1/2",
+    ),
+    ("VERDICT,1,INFEASIBLE\nROW,1,0\n", "MissingRow 3"),
+    ("VERDICT,1,INFEASIBLE\nCOL,1,0\n", "UnknownRow 2"),
+    ("VERDICT,1,UNBOUNDED\nCOL,1,0\nRAY,1,1\n", "0 -> 1"),
+    ("VERDICT,1,UNBOUNDED\nCOL,1,0\nROW,1,1\n", "UnknownRow 3"),
+    ("VERDICT,1,UNBOUNDED\nCOL,1,0\nRAY,1,.5\n", "Number 3"),
+    (
+        "VERDICT,1,UNBOUNDED\nCOL,1,0\nRAY,1,1\nRAY,2,1\n",
+        "UnknownRow 4",
+    ),
     ("VERDICT,2,OPTIMAL\n", "UnknownRow 1"),
     ("COL,1,5\n", "UnknownRow 1"),
     ("VERDICT,1,OPTIMAL\n", "MissingRow 2"),
@@ -89,6 +105,19 @@ fn told(alloc: Global, answer: &Result<Cert, CertFault>) -> Result<String, Fail>
             push_fracs(&mut text, alloc, duals)?;
             Ok(text)
         }
+        Ok(Cert::Farkas { duals }) => {
+            let mut text = String::new(alloc);
+            text.push_str("none | ")?;
+            push_fracs(&mut text, alloc, duals)?;
+            Ok(text)
+        }
+        Ok(Cert::Ray { values, ray }) => {
+            let mut text = String::new(alloc);
+            push_fracs(&mut text, alloc, values)?;
+            text.push_str("-> ")?;
+            push_fracs(&mut text, alloc, ray)?;
+            Ok(text)
+        }
         Err(CertFault::NoColumn(name)) => Ok(format!(in alloc;
             "NoColumn {} ",
             str::from_utf8(name.bytes())?
@@ -128,17 +157,48 @@ fn finds_columns(rt: HostRuntime) -> Result<(), Fail> {
     Ok(())
 }
 
+// A problem of two nodes and the arcs between them, in both directions.
+fn pair(alloc: Global) -> Result<Problem, Fail>
+    ensures columns { IfOk result (λ p. length p.columns ≡ 2) }
+    ensures rows { IfOk result (λ p. length p.rows ≡ 2) }
+{
+    let mut builder = ProblemBuilder::new(alloc, false);
+    builder.add_node(Frac::zero())?;
+    builder.add_node(Frac::zero())?;
+    builder.add_column(1, 2, Frac::from_whole(-1), Frac::zero(), None)?;
+    builder.add_column(2, 1, Frac::zero(), Frac::zero(), None)?;
+    Ok(builder.finish()?)
+}
+
 #[test]
 fn reads_for_a_problem(rt: HostRuntime) -> Result<(), Fail> {
-    let mut builder = ProblemBuilder::new(rt.alloc(), false);
-    let _first = builder.add_node(Frac::zero())?;
-    let _second = builder.add_node(Frac::zero())?;
-    let problem = builder.finish()?;
+    let problem = pair(rt.alloc())?;
     let table = read_table(
         rt.alloc(),
-        b"_ITEM_,_NUMBER_,_VALUE_\nVERDICT,1,OPTIMAL\nROW,1,1/3\nROW,2,4\n",
+        b"_ITEM_,_NUMBER_,_VALUE_\nVERDICT,1,OPTIMAL\nCOL,1,0\nCOL,2,5\nROW,1,1/3\nROW,2,4\n",
     )?;
     let answer = read_cert(rt.alloc(), &table, &problem);
-    assert_eq!(rt; told(rt.alloc(), &answer)?.as_str().trim_end(), "| 1/3 4");
+    assert_eq!(rt;
+        told(rt.alloc(), &answer)?.as_str().trim_end(),
+        "0 5 | 1/3 4"
+    );
+    Ok(())
+}
+
+#[test]
+fn writes_a_ray(rt: HostRuntime) -> Result<(), Fail> {
+    let problem = pair(rt.alloc())?;
+    let mut values = Fracs::new(rt.alloc());
+    values.push(Frac::zero())?;
+    values.push(Frac::zero())?;
+    let mut ray = Fracs::new(rt.alloc());
+    ray.push(Frac::from_whole(1))?;
+    ray.push(Frac::from_whole(1))?;
+    let table = cert_table(rt.alloc(), &problem, &Cert::Ray { values, ray })?;
+    let text = write_table(rt.alloc(), &table)?;
+    assert_eq!(rt;
+        text.bytes(),
+        b"_ITEM_,_NUMBER_,_VALUE_\nVERDICT,1,UNBOUNDED\nCOL,1,0\nCOL,2,0\nRAY,1,1\nRAY,2,1\n".as_slice()
+    );
     Ok(())
 }
