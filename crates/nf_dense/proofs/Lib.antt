@@ -1,0 +1,5 @@
+pub mod Lists
+pub mod Stored
+pub mod Steps
+pub mod Sums
+pub mod Updates
