@@ -1,0 +1,15 @@
+mod Named
+mod Lowest
+mod Rests
+mod Entered
+mod Inverse
+mod Spread
+mod Pivoted
+mod Arisen
+mod Flipped
+mod Started
+mod Loaded
+mod Wanted
+mod LoadStart
+mod LoadEnd
+mod Restored

@@ -1,0 +1,12 @@
+pub mod Names
+pub mod Kept
+pub mod Lowest
+pub mod Inside
+pub mod Numbers
+pub mod Arising
+pub mod Products
+pub mod Dense
+pub mod Loading
+pub mod Restoring
+pub mod Rests
+pub mod Starting

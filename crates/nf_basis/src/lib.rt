@@ -1,0 +1,23 @@
+//! States of the simplex method, the trait of a basis that gives their numbers, and the plain dense inverse.
+#![tactic(auto)]
+
+mod basis;
+mod col;
+mod columns;
+mod dense;
+mod moves;
+mod rest;
+mod restore;
+mod slots;
+mod start;
+mod state;
+#[cfg(test)]
+mod tests;
+mod weights;
+
+pub use basis::{Basis, RestoreFault};
+pub use col::{Col, Phase, Place};
+pub use dense::DenseBasis;
+pub use start::{StartFault, start_one};
+pub use state::State;
+pub use weights::Weights;
