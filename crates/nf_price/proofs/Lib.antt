@@ -1,0 +1,4 @@
+pub mod CostFacts
+pub mod ScanFacts
+pub mod ChoiceFacts
+pub mod SignFacts

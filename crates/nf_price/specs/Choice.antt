@@ -1,0 +1,16 @@
+-- What pricing is told of a state, and how a state has ended where no column is eligible.
+-- `choose` asks for the one and promises the other.
+use Rattle.std.specs.Prelude.{◌≡◌, ℕ, Bool, MatchBool}
+use Rattle.nf_num.specs.Rational.{ℚ, zero_ℚ, ◌<ℚ◌}
+use Rattle.nf_model.specs.Program.{LinearProgram}
+use Rattle.nf_simplex.specs.Standing.{Standing, AreValuesOf}
+use Rattle.nf_simplex.specs.Moves.{HasEndedInfeasibleIn, HasEndedOptimalIn}
+use Rattle.nf_simplex.specs.Verdicts.{artificial_sum}
+
+-- `short` says whether the state's artificials sum to more than 0; else they sum to 0.
+abbrev pub TellsShort : LinearProgram → Standing → Bool → Type 0
+TellsShort p s short = (x : ℕ → ℚ) × AreValuesOf p s x × MatchBool short (zero_ℚ <ℚ artificial_sum p x) (artificial_sum p x ≡ zero_ℚ)
+
+-- The state has ended: infeasible where its artificials sum to more than 0, and else optimal.
+abbrev pub HasEnded : LinearProgram → Standing → Bool → Type 0
+HasEnded p s short = MatchBool short (HasEndedInfeasibleIn p s) (HasEndedOptimalIn p s)

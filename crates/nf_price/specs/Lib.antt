@@ -1,0 +1,4 @@
+pub mod Rules
+pub mod Choice
+pub mod Wanted
+pub mod Cost

@@ -1,0 +1,123 @@
+//! The choice of the entering column.
+ghost use Rattle.std.specs.Prelude.{◌≡◌, ◌+◌, ◌*◌, ◌≤◌, length, IfOk, IfErr, IfNone, IfSome};
+ghost use Rattle.nf_sums.specs.Terms.{PassesIn};
+ghost use Rattle.nf_simplex.specs.Moves.{IsPickedIn};
+ghost use Rattle.nf_simplex.specs.Size.{size};
+ghost use Rattle.nf_simplex.specs.Standing.{rows_of};
+ghost use Rattle.nf_basis.specs.Arising.{StateTerms};
+ghost use Rattle.nf_basis.specs.Kept.{IsNonbasic, IsStateOf};
+ghost use Rattle.nf_basis.specs.Names.{col_of};
+ghost use Rattle.nf_basis.specs.Numbers.{AreDualsByRow};
+ghost use Rattle.nf_duals.specs.Priced.{HasDuals, count_priced};
+ghost use Rattle.nf_price.specs.Choice.{HasEnded, TellsShort};
+ghost use Rattle.nf_price.specs.Cost.{paid};
+ghost use Rattle.nf_price.specs.Rules.{rule_of};
+ghost use Rattle.nf_price.specs.Wanted.{IsChosen, Wants, WantsNone};
+
+use crate::rule::Rule;
+use crate::scan::{first_wanted, greatest_wanted};
+use nf_basis::{Col, Phase, State};
+use nf_duals::{priced_column, priced_columns};
+use nf_frac::{Frac, Passed, Steps};
+use nf_prob::Problem;
+use std::sync::ledger::Ledger;
+
+/// The column that enters: of the eligible columns the one that the rule and the cursor pick, and `None` exactly where
+/// the state has ended.
+///
+/// `duals_one` and `duals_two` are the state's duals of the two phases, by row of the stage, and `short` says whether
+/// its artificials sum to more than 0. The cursor is the number of the column that was picked last, and 0 where none
+/// was: given columns by number, and then the slack of row i as number `columns + i - nodes`.
+///
+/// Phase one decides wherever it wants a column. Where it wants none, the state has ended infeasible where it is short,
+/// and else phase two decides among the columns with the phase-one reduced cost 0.
+///
+/// `Passed` only where an operation of a reduced cost passes 128 bits. At most `16 w` steps, w the size of the problem
+/// in the stage. It takes no memory.
+pub fn choose<L: Ledger>(
+    p: &Problem,
+    state: &State,
+    rule: Rule,
+    cursor: u32,
+    short: bool,
+    duals_one: &[Frac],
+    duals_two: &[Frac],
+    steps: &mut Steps<L>,
+) -> Result<Option<Col>, Passed>
+    requires state { IsStateOf p.now state.now }
+    requires places_one { length duals_one.now ≡ rows_of p.now state.now.standing }
+    requires places_two { length duals_two.now ≡ rows_of p.now state.now.standing }
+    requires duals_one { AreDualsByRow p.now state.now.standing Phase.One duals_one.now }
+    requires duals_two { AreDualsByRow p.now state.now.standing Phase.Two duals_two.now }
+    requires short { TellsShort p.now state.now.standing short }
+    ensures picked { IfOk result (λ r. IfSome r (λ c. IsPickedIn p.now state.now.standing (rule_of rule) cursor (col_of c))) }
+    ensures nonbasic { IfOk result (λ r. IfSome r (IsNonbasic p.now state.now.standing)) }
+    ensures ended { IfOk result (λ r. IfNone r (HasEnded p.now state.now.standing short)) }
+    ensures passed { IfErr result (PassesIn (StateTerms p.now state.now.standing)) }
+    ensures cost { steps.new ≤ steps.old + 16 * size p.now state.now.standing.stage }
+{
+    if let Some(k) = chosen(
+        p,
+        state,
+        Phase::One,
+        rule,
+        cursor,
+        duals_one,
+        duals_two,
+        steps,
+    )? {
+        return Ok(Some(priced_column(p, k)));
+    }
+    if short {
+        return Ok(None);
+    }
+    match chosen(
+        p,
+        state,
+        Phase::Two,
+        rule,
+        cursor,
+        duals_one,
+        duals_two,
+        steps,
+    )? {
+        Some(k) => Ok(Some(priced_column(p, k))),
+        None => Ok(None),
+    }
+}
+
+// The number of the column that the rule picks of those that a phase wants.
+fn chosen<L: Ledger>(
+    p: &Problem,
+    state: &State,
+    phase: Phase,
+    rule: Rule,
+    cursor: u32,
+    one: &[Frac],
+    two: &[Frac],
+    steps: &mut Steps<L>,
+) -> Result<Option<u32>, Passed>
+    requires state { IsStateOf p.now state.now }
+    requires one { HasDuals p.now state.now.standing Phase.One one.now }
+    requires two { HasDuals p.now state.now.standing Phase.Two two.now }
+    ensures some { IfOk result (λ r. IfSome r (IsChosen p.now state.now.standing phase one.now two.now (rule_of rule) cursor)) }
+    ensures none { IfOk result (λ r. IfNone r (WantsNone p.now state.now.standing phase one.now two.now)) }
+    ensures passed { IfErr result (PassesIn (StateTerms p.now state.now.standing)) }
+    ensures cost { steps.new ≤ steps.old + paid p.now phase (count_priced p.now) }
+{
+    let count = priced_columns(p);
+    match rule {
+        Rule::Bland => first_wanted(p, state, phase, one, two, 0, count, steps),
+        Rule::Best => match greatest_wanted(p, state, phase, one, two, steps)? {
+            Some(best) => Ok(Some(best.number)),
+            None => Ok(None),
+        },
+        Rule::First => {
+            let from = cursor.min(count);
+            match first_wanted(p, state, phase, one, two, from, count, steps)? {
+                Some(k) => Ok(Some(k)),
+                None => first_wanted(p, state, phase, one, two, 0, from, steps),
+            }
+        }
+    }
+}

@@ -1,0 +1,145 @@
+// Whether a phase wants a column to enter.
+ghost use Rattle.std.specs.Prelude.{◌≡◌, ◌+◌, ◌<◌, ◌≤◌, ◌↔◌, IfOk, IfErr, IfNone, IfSome, IsTrue};
+ghost use Rattle.nf_num.specs.Rational.{ℚ};
+ghost use Rattle.nf_sums.specs.Terms.{PassesIn};
+ghost use Rattle.nf_simplex.specs.Pricing.{HasWrongSign, IsMagnitude};
+ghost use Rattle.nf_basis.specs.Arising.{StateTerms};
+ghost use Rattle.nf_basis.specs.Kept.{IsStateOf};
+ghost use Rattle.nf_basis.specs.Names.{place_of};
+ghost use Rattle.nf_duals.specs.Priced.{HasDuals, count_priced, price};
+ghost use Rattle.nf_price.specs.Cost.{price_in};
+ghost use Rattle.nf_price.specs.Wanted.{BoundsDiffer, HasMagnitude, Wants};
+
+use nf_basis::{Phase, Place, State};
+use nf_duals::{phase_cost, priced_place};
+use nf_frac::{Frac, Passed, Steps};
+use nf_prob::Problem;
+use std::cmp::Ordering;
+use std::sync::ledger::Ledger;
+
+// The magnitude of the reduced cost of the column with a number, where a phase wants it to enter.
+pub(crate) fn wanted<L: Ledger>(
+    p: &Problem,
+    state: &State,
+    phase: Phase,
+    one: &[Frac],
+    two: &[Frac],
+    k: u32,
+    steps: &mut Steps<L>,
+) -> Result<Option<Frac>, Passed>
+    requires state { IsStateOf p.now state.now }
+    requires one { HasDuals p.now state.now.standing Phase.One one.now }
+    requires two { HasDuals p.now state.now.standing Phase.Two two.now }
+    requires within { k < count_priced p.now }
+    ensures wanted { IfOk result (λ r. IfSome r (λ a. Wants p.now state.now.standing phase one.now two.now k)) }
+    ensures size { IfOk result (λ r. IfSome r (HasMagnitude p.now state.now.standing phase one.now two.now k)) }
+    ensures none { IfOk result (λ r. IfNone r (Wants p.now state.now.standing phase one.now two.now k → ⊥)) }
+    ensures passed { IfErr result (PassesIn (StateTerms p.now state.now.standing)) }
+    ensures cost { steps.new ≤ steps.old + price_in p.now phase k }
+{
+    match phase {
+        Phase::One => wanted_one(p, state, one, two, k, steps),
+        Phase::Two => wanted_two(p, state, one, two, k, steps),
+    }
+}
+
+fn wanted_one<L: Ledger>(
+    p: &Problem,
+    state: &State,
+    one: &[Frac],
+    two: &[Frac],
+    k: u32,
+    steps: &mut Steps<L>,
+) -> Result<Option<Frac>, Passed>
+    requires state { IsStateOf p.now state.now }
+    requires one { HasDuals p.now state.now.standing Phase.One one.now }
+    requires within { k < count_priced p.now }
+    ensures wanted { IfOk result (λ r. IfSome r (λ a. Wants p.now state.now.standing Phase.One one.now two.now k)) }
+    ensures size { IfOk result (λ r. IfSome r (HasMagnitude p.now state.now.standing Phase.One one.now two.now k)) }
+    ensures none { IfOk result (λ r. IfNone r (Wants p.now state.now.standing Phase.One one.now two.now k → ⊥)) }
+    ensures passed { IfErr result (PassesIn (StateTerms p.now state.now.standing)) }
+    ensures cost { steps.new ≤ steps.old + price p.now k }
+{
+    let place = priced_place(p, state, k);
+    if !may_enter(p, place, k) {
+        return Ok(None);
+    }
+    let d = phase_cost(p, Phase::One, k, one, steps)?;
+    Ok(wrong_size(place, d))
+}
+
+fn wanted_two<L: Ledger>(
+    p: &Problem,
+    state: &State,
+    one: &[Frac],
+    two: &[Frac],
+    k: u32,
+    steps: &mut Steps<L>,
+) -> Result<Option<Frac>, Passed>
+    requires state { IsStateOf p.now state.now }
+    requires one { HasDuals p.now state.now.standing Phase.One one.now }
+    requires two { HasDuals p.now state.now.standing Phase.Two two.now }
+    requires within { k < count_priced p.now }
+    ensures wanted { IfOk result (λ r. IfSome r (λ a. Wants p.now state.now.standing Phase.Two one.now two.now k)) }
+    ensures size { IfOk result (λ r. IfSome r (HasMagnitude p.now state.now.standing Phase.Two one.now two.now k)) }
+    ensures none { IfOk result (λ r. IfNone r (Wants p.now state.now.standing Phase.Two one.now two.now k → ⊥)) }
+    ensures passed { IfErr result (PassesIn (StateTerms p.now state.now.standing)) }
+    ensures cost { steps.new ≤ steps.old + (price p.now k + price p.now k) }
+{
+    let place = priced_place(p, state, k);
+    if !may_enter(p, place, k) {
+        return Ok(None);
+    }
+    let first = phase_cost(p, Phase::One, k, one, steps)?;
+    if first != Frac::zero() {
+        return Ok(None);
+    }
+    let d = phase_cost(p, Phase::Two, k, two, steps)?;
+    Ok(wrong_size(place, d))
+}
+
+// Whether the column with a number, which stands here, is nonbasic and without two equal bounds.
+fn may_enter(p: &Problem, place: Place, k: u32) -> bool
+    requires within { k < count_priced p.now }
+    ensures yes { IsTrue result → BoundsDiffer p.now k }
+    ensures no { (IsTrue result → ⊥) → (d : ℚ) → BoundsDiffer p.now k → HasWrongSign (place_of place) d → ⊥ }
+{
+    match place {
+        Place::Lower | Place::Upper => bounds_differ(p, k),
+        Place::Basic | Place::Absent => false,
+    }
+}
+
+// Slacks have no upper bound.
+fn bounds_differ(p: &Problem, k: u32) -> bool
+    requires within { k < count_priced p.now }
+    ensures { IsTrue result ↔ BoundsDiffer p.now k }
+{
+    if k >= p.columns() {
+        return true;
+    }
+    match p.upper(k + 1) {
+        None => true,
+        Some(upper) => p.lower(k + 1) != upper,
+    }
+}
+
+// The magnitude of the reduced cost of a column that stands here, where it has the wrong sign.
+fn wrong_size(place: Place, d: Frac) -> Option<Frac>
+    ensures wrong { IfSome result (λ a. HasWrongSign (place_of place) d) }
+    ensures size { IfSome result (IsMagnitude d) }
+    ensures right { IfNone result (HasWrongSign (place_of place) d → ⊥) }
+{
+    let sign = d.cmp(Frac::zero());
+    match place {
+        Place::Lower => match sign {
+            Ordering::Less => Some(d.neg()),
+            Ordering::Equal | Ordering::Greater => None,
+        },
+        Place::Upper => match sign {
+            Ordering::Less | Ordering::Equal => None,
+            Ordering::Greater => Some(d),
+        },
+        Place::Basic | Place::Absent => None,
+    }
+}
