@@ -1,0 +1,10 @@
+mod Least
+mod Signs
+mod Causes
+mod Sizes
+mod Ties
+mod Lists
+mod Winner
+mod Steps
+mod Looking
+mod Answered

@@ -1,0 +1,4 @@
+pub mod Ratios
+pub mod Ties
+pub mod Loops
+pub mod Answer
