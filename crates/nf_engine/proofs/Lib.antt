@@ -1,0 +1,3 @@
+mod SumFacts
+mod StepFacts
+mod RunFacts

@@ -1,0 +1,161 @@
+-- A turn by the ratio test's answer, and the step that a change makes.
+use Rattle.std.proofs.Common.{◌≡◌, ◌≢◌, ℕ, suc, ◌+◌, ◌*◌, ◌<◌, ◌≤◌, List, sym, ap, ◌∙◌, subst, subst₂, arith}
+use Rattle.nf_num.specs.Rational.{ℚ}
+use Rattle.nf_model.specs.Program.{LinearProgram}
+use Rattle.nf_simplex.specs.Place as model
+use Rattle.nf_simplex.specs.Columns.{Slack}
+use Rattle.nf_simplex.specs.Columns as columns
+use Rattle.nf_simplex.specs.Pricing as model_rule
+use Rattle.nf_simplex.specs.Layout.{Layout}
+use Rattle.nf_simplex.specs.StageOf.{StageNumber, StageOne, StageTwo, IsPresent as InStage}
+use Rattle.nf_simplex.specs.Changes.{exchanged, flipped}
+use Rattle.nf_simplex.specs.Moves.{IsEligibleIn, IsPickedIn, WouldLower, HasNoNext}
+use Rattle.nf_simplex.specs.Standing.{Standing, IsFeasibleState}
+use Rattle.nf_simplex.proofs.Moving.{eligible_goes}
+use Rattle.nf_simplex.proofs.Prices.{eligible_any}
+use Rattle.nf_simplex.proofs.Standings.{steps_lower}
+use Rattle.nf_basis.specs.declared.col.Col.{Col}
+use Rattle.nf_basis.specs.declared.col.Place.{Place}
+use Rattle.nf_basis.specs.declared.col.Place.TheVariants.{Lower, Upper, Basic, Absent}
+use Rattle.nf_basis.specs.Names.{col_of, place_of}
+use Rattle.nf_basis.specs.Kept.{Kept as State, IsBoundOf, IsNonbasic, IsPresent, IsStateOf, number, place_in}
+use Rattle.nf_basis.specs.Numbers.{IsSound, in_slot}
+use Rattle.nf_price.specs.declared.rule.Rule.{Rule}
+use Rattle.nf_ratio.specs.declared.answer.Limit.{Limit}
+use Rattle.nf_ratio.specs.declared.answer.Limit.TheVariants.{Leave, Ray}
+use Rattle.nf_ratio.specs.declared.answer.Limit.TheVariants as limit
+use Rattle.nf_ratio.specs.Answer.{IsLimitOf, IsNextBy, moves_down}
+use Rattle.nf_engine.specs.declared.halt.Moved.{Moved}
+use Rattle.nf_engine.specs.declared.halt.Moved.TheVariants.{Pivoted, Flipped, Best, NoFlow, NoBound}
+use Rattle.nf_engine.specs.declared.turn.Turn.{Turn}
+use Rattle.nf_engine.specs.declared.turn.Turn.TheVariants.{Changes, Ended}
+use Rattle.nf_engine.specs.declared.turn.Change.{Change}
+use Rattle.nf_engine.specs.declared.turn.Change.TheVariants.{Pivot, Flip}
+use Rattle.nf_engine.specs.Point.{Point}
+use Rattle.nf_engine.specs.Steps.{Picks, StepsBy, HasNoBoundAt, IsEntering, IsChange, IsLimited, IsTurn, IsMade, IsStep, HasEnded, limited_by}
+
+-- A place by name is not the place zero.
+named_place : (a : Place) → place_of a ≢ model.Zero
+named_place Lower e = let x : model.Lower ≡ model.Zero = e in cc
+named_place Upper e = let x : model.Upper ≡ model.Zero = e in cc
+named_place Basic e = let x : model.Basic ≡ model.Zero = e in cc
+named_place Absent e = let x : model.Absent ≡ model.Zero = e in cc
+
+-- Where a column of a basis stands, as its state tells.
+told_place : (p : LinearProgram) (k : State) (s : Standing) → k.standing ≡ s → IsStateOf p k → (c : Col) (a : Place) → IsPresent p s c
+    → ((q : LinearProgram) → IsStateOf q k → IsPresent q k.standing c → place_of a ≡ place_in q k.standing c) → place_of a ≡ place_in p s c
+told_place p k s same st c a here told = subst (λ t. place_of a ≡ place_in p t c) same (told p st (subst (λ t. IsPresent p t c) (sym same) here))
+
+-- A picked column is eligible.
+pub picked_eligible : (p : LinearProgram) (s : Standing) (rule : model_rule.Rule) (cursor : ℕ) (c : columns.Col) → IsPickedIn p s rule cursor c → IsEligibleIn p s c
+picked_eligible p s rule cursor c h = (h.0, h.1.eligible)
+
+-- An eligible column would lower the costs, away from the bound at which it stands.
+pub lowers : (p : LinearProgram) (k : State) (s : Standing) → k.standing ≡ s → IsStateOf p k → (c : Col) (a : Place) → IsPresent p s c
+    → ((q : LinearProgram) → IsStateOf q k → IsPresent q k.standing c → place_of a ≡ place_in q k.standing c)
+    → IsEligibleIn p s (col_of c) → WouldLower p s (col_of c) (moves_down p s c)
+lowers p k s same st c a here told e = eligible_goes p s (col_of c) st.problem e (λ z. named_place a (told_place p k s same st c a here told ∙ z))
+
+module _ (p : LinearProgram) (s : Standing) (f : IsFeasibleState p s) (rule : Rule) (cursor : ℕ) (c : Col) where
+  -- A picked column without a next state: the state has ended unbounded.
+  no_bound : IsPresent p s c → Picks p rule s cursor c → WouldLower p s (col_of c) (moves_down p s c) → HasNoNext p s (col_of c) (moves_down p s c) → HasNoBoundAt p rule s cursor c
+  no_bound here picked w none = (
+    here,
+    picked,
+    (
+      w.prices,
+      record {
+        eligible = eligible_any p s f.feasible.basis picked.0 w.prices (number p c) picked.1.eligible;
+        enters = w.enters;
+        improves = w.improves;
+        stuck = none;
+      },
+    ),
+  )
+
+  -- The turn that the ratio test gives for the picked column is due.
+  pub turn_due : (slots : List Col) (turn : Turn) → IsNonbasic p s c → Picks p rule s cursor c → WouldLower p s (col_of c) (moves_down p s c) → IsLimited p s slots c turn → IsTurn p rule s cursor slots turn
+  turn_due slots turn there picked w (l, answer, is) = subst (IsTurn p rule s cursor slots) (sym is) (of l answer)
+    where
+      of : (l : Limit) → IsLimitOf p s slots c l → IsTurn p rule s cursor slots (limited_by c l)
+      of (Leave slot to) a = (record { nonbasic = there; picked = picked; lowers = w }, a)
+      of limit.Flip a = (record { nonbasic = there; picked = picked; lowers = w }, a)
+      of Ray a = no_bound there.0 picked w a
+
+module _ (p : LinearProgram) (rule : Rule) (a : Point) (f : IsFeasibleState p a.standing) (c : Col) (b : Point) (counted : b.pivots ≡ suc a.pivots) (noted : b.cursor ≡ suc (number p c)) where
+  -- The step to a next state.
+  pub step_to : IsEntering p rule a.standing a.cursor c → IsNextBy p a.standing c b.standing → StepsBy p rule a c b
+  step_to e next = let l = steps_lower p a.standing b.standing (col_of c) (moves_down p a.standing c) f e.lowers next in record {
+    present = e.nonbasic.0;
+    picked = e.picked;
+    next = next;
+    feasible = l.0;
+    lower = l.1;
+    counted = counted;
+    noted = noted;
+  }
+
+  -- A pivot makes it,
+  pub pivot_made : (slots : List Col) (x : ℕ → ℚ) → IsSound p a.standing slots x → (slot : ℕ) (to : Place) (leaving : Col) → IsChange p rule a.standing a.cursor slots (Pivot c slot to)
+      → leaving ≡ in_slot slots slot → b.standing ≡ exchanged p a.standing (col_of c) (col_of (in_slot slots slot)) (place_of to) → IsMade p rule a (Pivoted c leaving) b
+  pivot_made slots x sound slot to leaving (e, leaves) same becomes = (
+    c,
+    step,
+    (
+      step,
+      record {
+        present = subst (IsPresent p a.standing) (sym same) (sound.listed.present slot leaves.within);
+        basic = subst (λ l. place_in p a.standing l ≡ model.Basic) (sym same) (sound.listed.basic slot leaves.within);
+        to = place_of to;
+        bound = subst (λ l. IsBoundOf p l (place_of to)) (sym same) leaves.bound;
+        becomes = becomes ∙ ap (λ l. exchanged p a.standing (col_of c) (col_of l) (place_of to)) (sym same);
+      },
+    ),
+  )
+    where
+      step : StepsBy p rule a c b
+      step = step_to e (subst (IsNextBy p a.standing c) (sym becomes) leaves.next)
+
+  -- and so does a flip.
+  pub flip_made : (slots : List Col) → IsChange p rule a.standing a.cursor slots (Flip c) → b.standing ≡ flipped p a.standing (col_of c) → IsMade p rule a (Flipped c) b
+  flip_made slots (e, flips) becomes = let step : StepsBy p rule a c b = step_to e (subst (IsNextBy p a.standing c) (sym becomes) flips.next) in (c, step, (step, becomes))
+
+-- Points with the same parts.
+abbrev pub at_point : Standing → ℕ → ℕ → Point
+at_point s n k = record { standing = s; pivots = n; cursor = k }
+
+pub point_same : (s t : Standing) (n m k l : ℕ) → s ≡ t → n ≡ m → k ≡ l → at_point s n k ≡ at_point t m l
+point_same s t n m k l a b c = λ i. record { standing = a i; pivots = b i; cursor = c i }
+
+-- A change that is due by one basis is due by another one with its state and slots.
+pub change_same : (p : LinearProgram) (rule : Rule) (s t : Standing) (k : ℕ) (slots other : List Col) (turn : Turn) (change : Change) → t ≡ s → other ≡ slots → turn ≡ Changes change → IsTurn p rule s k slots turn → IsChange p rule t k other change
+change_same p rule s t k slots other turn change a b is h = subst₂ (λ t l. IsChange p rule t k l change) (sym a) (sym b) (subst (IsTurn p rule s k slots) is h)
+
+-- What has ended by what is due.
+pub ended_same : (p : LinearProgram) (rule : Rule) (s : Standing) (k : ℕ) (slots : List Col) (turn : Turn) (m : Moved) → turn ≡ Ended m → IsTurn p rule s k slots turn → HasEnded p rule s k m
+ended_same p rule s k slots turn m is h = subst (IsTurn p rule s k slots) is h
+
+-- A state that has ended so stays.
+pub ended_step : (p : LinearProgram) (rule : Rule) (a b : Point) (m : Moved) → HasEnded p rule a.standing a.cursor m → b ≡ a → IsStep p rule a m b
+ended_step p rule a b (Pivoted e l) h same = absurd h
+ended_step p rule a b (Flipped c) h same = absurd h
+ended_step p rule a b Best h same = (h, same)
+ended_step p rule a b NoFlow h same = (h, same)
+ended_step p rule a b (NoBound c) h same = (h, same)
+
+-- ---- numbers
+-- A slack of a stage is that of a side row.
+pub slack_there : (p : Layout) (n : StageNumber) (r : ℕ) → InStage p n (Slack r) → (p.nodes ≤ r) × (r < p.nodes + p.sides)
+slack_there p StageOne r h = absurd h
+slack_there p StageTwo r h = (h.0, h.1)
+
+-- ---- steps
+-- What a look may cost: two lists of duals, the artificials, the choice, and the ratio test.
+pub look_cost : (a d e i k b t u w r : ℕ) → r < w → d ≤ a + u → e ≤ d + u → i ≤ e + r → k ≤ i + 16 * w → b ≤ k + (1 + t) * (u + 4 * w) → b ≤ a + (4 * (1 + t) * u + 48 * (1 + t) * w)
+look_cost a d e i k b t u w r small h1 h2 h3 h4 h5 = omega (arith, small, h1, h2, h3, h4, h5)
+
+pub step_cost : (a b c t u w : ℕ) → b ≤ a + (4 * (1 + t) * u + 48 * (1 + t) * w) → c ≤ b + 4 * u → c ≤ a + 8 * (1 + t) * (u + 6 * w)
+step_cost a b c t u w h k = omega (arith, h, k)
+
+pub no_more : (b u : ℕ) → b ≤ b + u
+no_more b u = omega arith

@@ -1,0 +1,12 @@
+//! Steps of the simplex method, one or many, up to a halt.
+#![tactic(auto)]
+
+mod artificials;
+mod engine;
+mod halt;
+mod room;
+mod turn;
+
+pub use artificials::sum_of_artificials;
+pub use engine::Engine;
+pub use halt::{Halt, Moved, Pauses};
