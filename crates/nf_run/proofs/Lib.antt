@@ -1,0 +1,6 @@
+mod Whole
+mod Opened
+mod PlanFacts
+mod RunFacts
+mod NumberFacts
+mod Listed

@@ -1,0 +1,49 @@
+use Rattle.std.proofs.Common.{[], ◌∙◌, arith, refl}
+use Rattle.std.proofs.lemmas.Result.{err_from_is_err_and}
+use Rattle.nf_run.specs.Steps.{point_at}
+use Rattle.nf_run.proofs.Listed.{appends_nothing, listed_all, listed_next, lists_none, stops_at, stops_opening}
+use Rattle.nf_run.proofs.statements.obey_all.Goals as goal
+
+pub returns-in_err-basis-clause-stops : goal.returns-in_err-basis-clause-stops
+returns-in_err-basis-clause-stops g c =
+    let q = err_from_is_err_and c.from_residual.result c.from_residual.ensures.1 in
+    rw (q.1, q.2) (stops_opening c.args.p.now c.args.options.now c.args.acts.now (g.K.Sink.written c.args.listing.now) (g.K.Sink.faults c.args.listing.now) _ c.in_err-basis.ensures.fault)
+
+pub acts-init : goal.acts-init
+acts-init g c =
+    record {
+      numbers = c.in_ok-basis.ensures.numbers;
+      feasible = c.in_ok-basis.ensures.feasible;
+      later = omega arith;
+      quiet = refl;
+      calm = λ h. refl;
+      listed = ([], lists_none c.args.p.now c.args.options.now (g.B.Basis.standing c.in_ok-basis.basis) c.in_ok-basis.ensures.first, appends_nothing (g.K.Sink.written c.args.listing.now));
+    }
+
+pub acts-preserved : goal.acts-preserved
+acts-preserved g c =
+    let inv = c.acts.invariant in
+    let e = c.in_ok-session.ensures in
+    record {
+      numbers = e.numbers;
+      feasible = e.feasible;
+      later = omega (arith, inv.later, e.later);
+      quiet = e.quiet ∙ inv.quiet;
+      calm = λ h. e.calm (inv.quiet ∙ h) ∙ inv.calm h;
+      listed = listed_next c.args.p.now c.args.options.now c.args.acts.now c.acts.act-index c.act-item.result (point_at g.B.Basis.standing c.acts.session) (point_at g.B.Basis.standing c.in_ok-session.session)
+          (g.K.Sink.written c.args.listing.now) (g.K.Sink.written c.acts.listing) (g.K.Sink.written c.obey.new.listing) c.requires.acts c.acts-test.true c.act-item.is inv.listed e.obeys;
+    }
+
+pub returns-in_err-session-clause-stops : goal.returns-in_err-session-clause-stops
+returns-in_err-session-clause-stops g c =
+    let inv = c.acts.invariant in
+    let q = err_from_is_err_and c.from_residual-in_err-session.result c.from_residual-in_err-session.ensures.1 in
+    rw (q.1, q.2)
+    (stops_at c.args.p.now c.args.options.now c.args.acts.now c.acts.act-index c.act-item.result (point_at g.B.Basis.standing c.acts.session)
+    (g.K.Sink.written c.args.listing.now) (g.K.Sink.written c.acts.listing) (g.K.Sink.written c.obey.new.listing) (g.K.Sink.faults c.args.listing.now) (g.K.Sink.faults c.acts.listing) (g.K.Sink.faults c.obey.new.listing) _
+    c.acts-test.true c.act-item.is inv.later inv.listed c.in_err-session.ensures.fault)
+
+pub returns-clause-ok : goal.returns-clause-ok
+returns-clause-ok g c =
+    listed_all c.args.p.now c.args.options.now c.args.acts.now c.acts.act-index (point_at g.B.Basis.standing c.acts.session) (g.K.Sink.written c.args.listing.now) (g.K.Sink.written c.acts.listing)
+    c.acts-test.false c.acts.auto.act-index-end c.acts.invariant.listed

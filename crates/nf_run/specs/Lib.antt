@@ -1,0 +1,6 @@
+pub mod Lines
+pub mod Setting
+pub mod Verdicts
+pub mod Runs
+pub mod Stops
+pub mod Steps

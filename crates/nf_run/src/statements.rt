@@ -1,0 +1,155 @@
+//! The statements of a program, one by one.
+ghost use Rattle.std.specs.Prelude.{true, ◌≡◌, ◌<◌, ◌≤◌, OnOk, IfOk, IfErr};
+ghost use Rattle.nf_simplex.specs.StageOf.{StageOne};
+ghost use Rattle.nf_simplex.specs.Standing.{IsFeasibleState};
+ghost use Rattle.nf_run.specs.Setting.{IsPlain};
+ghost use Rattle.nf_run.specs.Steps.{IsObeyFault, Obeys, point_at};
+ghost use Rattle.nf_run.specs.Stops.{ListsAll, StopsWith, are_standing, is_standing};
+
+use crate::event::RunFault;
+use crate::line::halt_text;
+use crate::opening::open;
+use crate::run::{Session, run};
+use nf_basis::{Basis, DenseBasis};
+use nf_frac::Steps;
+use nf_io::{PutFault, Sink, write_all};
+use nf_prob::Problem;
+use nf_stmt::{SessionOptions, Statement};
+use std::alloc::Global;
+use std::marker::Brand;
+use std::sync::ledger::{Blank, Ledger};
+
+/// Obeys the statements of a program on a problem, from the first state of stage one, and writes the listing statement
+/// by statement. Today they are RUN, and QUIT, which is the last one and writes nothing.
+///
+/// A RUN makes one step of the simplex method after another until a halt is due, and writes it with the pivots so far:
+/// `OPTIMAL` with the cost of the flows, once the check of these flows and of the duals that prove them has said yes;
+/// `INFEASIBLE` with the sum of the artificials; `UNBOUNDED` with the rate of the column that nothing stops; or the
+/// limit or the pause that the program has set. The problem is a network without side rows, of at most 1,000 nodes.
+///
+/// `Range` comes only where an operation passes 128 bits that arises from the state of this run after so many pivots;
+/// `Write` only where the sink's faults rose, and then a front of the listing is written; `NoMemory` likewise.
+pub fn run_program<K: Sink>(
+    alloc: Global,
+    p: &Problem,
+    options: &SessionOptions,
+    acts: &[Statement],
+    listing: &mut K,
+) -> Result<(), RunFault>
+    requires plain { IsPlain p.now }
+    requires acts { are_standing acts.now ≡ true }
+    ensures later { K.faults listing.old ≤ K.faults listing.new }
+    ensures quiet { K.quiet listing.new ≡ K.quiet listing.old }
+    ensures calm { K.quiet listing.old ≡ true → K.faults listing.new ≡ K.faults listing.old }
+    ensures ok { OnOk result (ListsAll p.now options.now acts.now (K.written listing.old) (K.written listing.new)) }
+    ensures stops { IfErr result (StopsWith p.now options.now acts.now (K.written listing.old) (K.written listing.new) (K.faults listing.old) (K.faults listing.new)) }
+{
+    // the nodes are among the rows, so the dense basis takes them
+    let _rows = p.rows();
+    obey_all::<DenseBasis, Brand, K>(alloc, p, options, acts, listing, Blank::new(1))
+}
+
+/// Whether all statements are such as stand today.
+pub fn are_standing(acts: &[Statement]) -> bool
+    ensures { result ≡ are_standing acts.now }
+{
+    acts.iter().all(is_standing)
+}
+
+fn is_standing(act: &Statement) -> bool
+    ensures { result ≡ is_standing act.now }
+{
+    matches!(act, Statement::Run | Statement::Quit)
+}
+
+// The same over any basis. The blank is one of the ledger, with a part; nobody reads the count of steps.
+fn obey_all<B: Basis, L: Ledger, K: Sink>(
+    alloc: Global,
+    p: &Problem,
+    options: &SessionOptions,
+    acts: &[Statement],
+    listing: &mut K,
+    blank: Blank,
+) -> Result<(), RunFault>
+    requires takes { B.Takes p.now StageOne }
+    requires plain { IsPlain p.now }
+    requires acts { are_standing acts.now ≡ true }
+    requires name { blank.name ≡ L.name }
+    requires parts { blank.parts ≡ L.parts }
+    requires some { 0 < L.parts }
+    ensures later { K.faults listing.old ≤ K.faults listing.new }
+    ensures quiet { K.quiet listing.new ≡ K.quiet listing.old }
+    ensures calm { K.quiet listing.old ≡ true → K.faults listing.new ≡ K.faults listing.old }
+    ensures ok { OnOk result (ListsAll p.now options.now acts.now (K.written listing.old) (K.written listing.new)) }
+    ensures stops { IfErr result (StopsWith p.now options.now acts.now (K.written listing.old) (K.written listing.new) (K.faults listing.old) (K.faults listing.new)) }
+{
+    let mut steps = Steps::<L>::new(blank);
+    let basis = open::<B, L>(alloc, p, &mut steps)?;
+    let mut session = Session {
+        basis,
+        pivots: 0,
+        cursor: 0,
+    };
+    'acts: for act in acts {
+        session = obey(alloc, p, options, act, session, listing, &mut steps)?;
+    }
+    Ok(())
+}
+
+// Obeys one statement.
+fn obey<B: Basis, L: Ledger, K: Sink>(
+    alloc: Global,
+    p: &Problem,
+    options: &SessionOptions,
+    act: &Statement,
+    session: Session<B>,
+    listing: &mut K,
+    steps: &mut Steps<L>,
+) -> Result<Session<B>, RunFault>
+    requires plain { IsPlain p.now }
+    requires numbers { B.HasNumbers p.now session.basis }
+    requires feasible { IsFeasibleState p.now (B.standing session.basis) }
+    ensures later { K.faults listing.old ≤ K.faults listing.new }
+    ensures quiet { K.quiet listing.new ≡ K.quiet listing.old }
+    ensures calm { K.quiet listing.old ≡ true → K.faults listing.new ≡ K.faults listing.old }
+    ensures numbers { IfOk result (λ s. B.HasNumbers p.now s.basis) }
+    ensures feasible { IfOk result (λ s. IsFeasibleState p.now (B.standing s.basis)) }
+    ensures obeys { IfOk result (λ s. Obeys p.now options.now act.now (point_at B.standing session) (point_at B.standing s) (K.written listing.old) (K.written listing.new)) }
+    ensures fault { IfErr result (IsObeyFault p.now options.now act.now (point_at B.standing session) (K.written listing.old) (K.written listing.new) (K.faults listing.old) (K.faults listing.new)) }
+{
+    match act {
+        Statement::Run => obey_run(alloc, p, options, session, listing, steps),
+        _ => Ok(session),
+    }
+}
+
+// Obeys a RUN.
+fn obey_run<B: Basis, L: Ledger, K: Sink>(
+    alloc: Global,
+    p: &Problem,
+    options: &SessionOptions,
+    session: Session<B>,
+    listing: &mut K,
+    steps: &mut Steps<L>,
+) -> Result<Session<B>, RunFault>
+    requires plain { IsPlain p.now }
+    requires numbers { B.HasNumbers p.now session.basis }
+    requires feasible { IsFeasibleState p.now (B.standing session.basis) }
+    ensures later { K.faults listing.old ≤ K.faults listing.new }
+    ensures quiet { K.quiet listing.new ≡ K.quiet listing.old }
+    ensures calm { K.quiet listing.old ≡ true → K.faults listing.new ≡ K.faults listing.old }
+    ensures numbers { IfOk result (λ s. B.HasNumbers p.now s.basis) }
+    ensures feasible { IfOk result (λ s. IsFeasibleState p.now (B.standing s.basis)) }
+    ensures obeys { IfOk result (λ s. Obeys p.now options.now Statement.Run (point_at B.standing session) (point_at B.standing s) (K.written listing.old) (K.written listing.new)) }
+    ensures fault { IfErr result (IsObeyFault p.now options.now Statement.Run (point_at B.standing session) (K.written listing.old) (K.written listing.new) (K.faults listing.old) (K.faults listing.new)) }
+{
+    let (line, session) = run(alloc, p, options, session, steps)?;
+    let Ok(text) = halt_text(alloc, line, session.counts()) else {
+        return Err(RunFault::NoMemory);
+    };
+    match write_all(listing, text.bytes()) {
+        Ok(()) => Ok(session),
+        Err(PutFault::Failed) => Err(RunFault::Write),
+        Err(PutFault::NoMemory) => Err(RunFault::NoMemory),
+    }
+}
