@@ -1,3 +1,4 @@
 pub mod Cells
 pub mod Names
 pub mod Inside
+pub mod Values
