@@ -1,0 +1,5 @@
+pub mod Sets
+pub mod First
+pub mod Roles
+pub mod Named
+pub mod Assigned
