@@ -1,0 +1,13 @@
+pub mod NodeFacts
+pub mod KeyFacts
+pub mod PassFacts
+pub mod NodePassFacts
+pub mod Lists
+pub mod ExcessFacts
+pub mod LimitFacts
+pub mod OptionFacts
+pub mod MakingFacts
+pub mod NetworkFacts
+pub mod ReadFacts
+pub mod LabelFacts
+pub mod FitFacts

@@ -1,0 +1,17 @@
+pub mod Rows
+pub mod Arcs
+pub mod Faults
+pub mod NodeData
+pub mod Excess
+pub mod Network
+pub mod Nodes
+pub mod Given
+pub mod Keys
+pub mod KeysInside
+pub mod Pass
+pub mod NodePass
+pub mod Balanced
+pub mod OptionPass
+pub mod Whole
+pub mod Making
+pub mod ProblemOf

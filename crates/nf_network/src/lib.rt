@@ -1,0 +1,23 @@
+//! The network of ARCDATA and NODEDATA as planners write them: the problem with its labels, or the first fault.
+#![tactic(auto)]
+
+mod excess;
+mod figures;
+mod keys;
+mod labelling;
+mod made;
+mod making;
+mod node_data;
+mod nodes;
+mod options;
+mod pass;
+mod read;
+mod reading;
+mod rows;
+
+pub use made::network;
+
+#[cfg(test)]
+mod role_tests;
+#[cfg(test)]
+mod tests;
