@@ -1,0 +1,16 @@
+//! Trials of the simplex method on random networks.
+//!
+//! After each step every number of the basis is computed again plainly, and the plan at the end is written as a
+//! certificate, read back and checked. Nothing stands on this crate, which has no code but its tests.
+#![tactic(auto)]
+
+#[cfg(test)]
+mod networks;
+#[cfg(test)]
+mod plain;
+#[cfg(test)]
+mod plans;
+#[cfg(test)]
+mod start;
+#[cfg(test)]
+mod walks;
