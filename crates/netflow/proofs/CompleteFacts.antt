@@ -1,5 +1,5 @@
 -- What a call takes in is told in one way, so a valid certificate is not refused.
-use Rattle.std.proofs.Common.{◌≡◌, ◌∙◌, ◌<◌, ◌≤◌, ◌++◌, ◌⊎◌, Bool, true, false, ℕ, List, Option, Some, None, Result, Ok, Err, if◌then◌else◌, inl, inr, length, arith, append-nil, length-append, refl, ap}
+use Rattle.std.proofs.Common.{◌≡◌, ◌∙◌, ◌<◌, ◌≤◌, ◌++◌, ◌⊎◌, Bool, true, false, ℕ, List, Option, Some, None, Result, Ok, Err, if◌then◌else◌, inl, inr, length, arith, append-nil, length-append, refl, ap, subst}
 use Rattle.std.proofs.lemmas.Bool.Decides.{nat_tests}
 use Rattle.std.specs.Bool.{nat_lt}
 use Rattle.std.specs.Io.KnownBytes.{Consumes, IsAtEnd}
@@ -9,14 +9,13 @@ use Rattle.nf_io.specs.Held.{Held, HasName, HasTooMany, LacksName, found, most_b
 use Rattle.nf_table.specs.Grid.{Grid}
 use Rattle.nf_table.specs.Reading.{table_read}
 use Rattle.nf_model.specs.Program.{LinearProgram}
-use Rattle.nf_model.specs.Certificate.{IsValidBest}
 use Rattle.nf_prob.specs.declared.cert.Cert.{Cert}
 use Rattle.nf_prob.specs.declared.cert.Cert.TheVariants as cert
 use Rattle.nf_prob.specs.declared.cert.Checked.TheVariants as checked
 use Rattle.nf_prob.specs.declared.cert.Why.{Why}
 use Rattle.nf_prob.specs.Verdict.{IsAnswer}
 use Rattle.nf_arcs.specs.Network.{network_read}
-use Rattle.nf_cert.specs.Reading.{cert_read}
+use Rattle.nf_cert.specs.Reading.{best_read}
 use Rattle.netflow.specs.declared.sets.SetName.{SetName}
 use Rattle.netflow.specs.declared.sets.SetName.TheVariants as set
 use Rattle.netflow.specs.declared.refusal.Refusal.{Refusal}
@@ -24,21 +23,42 @@ use Rattle.netflow.specs.declared.refusal.Refusal.TheVariants as refusal
 use Rattle.netflow.specs.declared.status.Status.{Status}
 use Rattle.netflow.specs.declared.status.Status.TheVariants as status
 use Rattle.netflow.specs.Data.{Sets, IsTable, bytes_of}
-use Rattle.netflow.specs.Headline.{AcceptsTheValid, Claims, PlanIsProved}
-use Rattle.netflow.specs.Outcome.{AreHeld, Call, Comes, FetchesSets, Input, PosesProblem, ReadsCertificate, ReadsProgram, Refuses, name_of}
-use Rattle.netflow.specs.Program.{IsNoProgram, Program, most_program}
-use Rattle.netflow.proofs.ProgramFacts.{one-program, program-short}
+use Rattle.netflow.specs.Headline.{AcceptsTheValid, ClaimIsProved, Claims, IsValid, Proves}
+use Rattle.netflow.specs.Lines.{accepted_lines}
+use Rattle.nf_program.specs.declared.program.Command.{Command}
+use Rattle.nf_program.specs.declared.program.Command.TheVariants.{Run, Check}
+use Rattle.nf_program.specs.declared.program.Program.{Program}
+use Rattle.nf_program.specs.declared.program.StmtFault.{StmtFault}
+use Rattle.nf_reader.specs.Faults.{HasFault}
+use Rattle.nf_reader.proofs.Answered.{one_program, never_both}
+use Rattle.netflow.specs.Outcome.{AreHeld, Call, Comes, FetchesSets, Input, Lists, NamesSets, PosesProblem, ReadsCertificate, ReadsProgram, Refuses, name_of}
+use Rattle.netflow.specs.Standing.{SetNames, StandsForCheck, IsStanding, most_program}
+use Rattle.netflow.specs.Words.{IsCommand}
+use Rattle.netflow.proofs.WordFacts.{not-both}
 
--- the headline
-pub plan-proved : (c : Call) → Comes c status.Finished → PlanIsProved c
-plan-proved c (cost, a, l) = record { problem = a.problem; flows = a.flows; duals = a.duals; reads = a.reads; best = a.best; listed = rw a.total at l }
+-- the headline of a check
+proves-of : (p : LinearProgram) (c : Cert) (number : ℚ) → IsAnswer p c (checked.Yes number) → Proves p c number
+proves-of p (cert.Best flows duals) number h = (h.1, h.2)
+proves-of p (cert.Farkas duals) number h = (h.1, h.2)
+proves-of p (cert.Ray flows ray) number h = (h.1, h.2)
+
+pub claim-proved : (c : Call) → IsCommand Check c.input.words → Comes c status.Finished → ClaimIsProved c
+claim-proved c words (inl (line, a, l)) = record {
+  problem = a.problem;
+  certificate = a.certificate;
+  reads = a.reads;
+  number = a.number;
+  proves = proves-of a.problem a.certificate a.number a.valid;
+  listed = subst (λ v. Lists c (accepted_lines v)) a.told l;
+}
+claim-proved c words (inr (program, problem, runs, text, listing, listed)) = absurd (not-both c.input.words words runs.reads.words)
 
 -- a told source gives the front of its text, and at its end the whole
 front-consumed : (rest : Option (List ℕ)) (text taken : List ℕ) → Consumes (Some text) rest taken → length taken ≤ length text
 front-consumed None text taken h = absurd h
 front-consumed (Some more) text taken h = rw h (simp length-append (omega arith))
 
-all-consumed : (rest : Option (List ℕ)) (text taken : List ℕ) → Consumes (Some text) rest taken → IsAtEnd rest → text ≡ taken
+pub all-consumed : (rest : Option (List ℕ)) (text taken : List ℕ) → Consumes (Some text) rest taken → IsAtEnd rest → text ≡ taken
 all-consumed None text taken h k = absurd h
 all-consumed (Some more) text taken h k = h ∙ (ap (λ m. taken ++ m) k ∙ append-nil taken)
 
@@ -72,24 +92,38 @@ table-short : (bytes : List ℕ) (g : Grid) → table_read bytes ≡ Ok g → le
 table-short bytes g h = not-longer most_bytes (length bytes) (if-ok (nat_lt most_bytes (length bytes)) _ _ g h)
 
 -- ---- what a call takes in is what its source and library tell
-has-set : (held : Option Held) (p : Program) (sets : Sets) → AreHeld held p sets → (s : SetName) → HasName held (name_of p s) (bytes_of sets s)
+has-set : (held : Option Held) (p : SetNames) (sets : Sets) → AreHeld Check held p sets → (s : SetName) → HasName held (name_of p s) (bytes_of sets s)
 has-set held p sets h set.Arcdata = h.arcdata
 has-set held p sets h set.Nodedata = h.nodedata
-has-set held p sets h set.Certdata = h.certdata
+has-set held p sets h set.Certdata = h.certdata refl
 
-program-same : (i : Input) (problem : LinearProgram) (certificate : Cert) (k : Claims i problem certificate) (q : Program) → ReadsProgram i q → q ≡ k.program
+program-same : (i : Input) (problem : LinearProgram) (certificate : Cert) (k : Claims i problem certificate) (q : Program) → ReadsProgram i Check q → q ≡ k.program
 program-same i problem certificate k q h =
     let t : k.text ≡ h.text = all-consumed i.rest k.text h.text (rw k.told at h.taken) h.ended in
-    one-program h.text q k.program h.spelled (rw t at k.spelled)
+    one_program Check h.text q k.program h.spelled (rw t at k.spelled)
 
-name-same : (i : Input) (problem : LinearProgram) (certificate : Cert) (k : Claims i problem certificate) (q : Program) → ReadsProgram i q
-    → (s : SetName) → HasName i.held (name_of q s) (bytes_of k.sets s)
-name-same i problem certificate k q h s = rw (program-same i problem certificate k q h) (has-set i.held k.program k.sets k.holds s)
+-- one program names its data sets in one way
+some-same : (a b : Option (List ℕ)) (m n : List ℕ) → a ≡ b → a ≡ Some m → b ≡ Some n → m ≡ n
+some-same a b m n e h k = cc
 
-sets-same : (i : Input) (problem : LinearProgram) (certificate : Cert) (k : Claims i problem certificate) (sets : Sets) → FetchesSets i sets
+one-names : (p q : Program) (m n : SetNames) → p ≡ q → StandsForCheck p m → StandsForCheck q n → m ≡ n
+one-names p q m n e h k = λ i. record {
+  arcdata = some-same p.proc.arcdata q.proc.arcdata m.arcdata n.arcdata (ap (λ r. r.proc.arcdata) e) h.arcdata k.arcdata i;
+  nodedata = some-same p.proc.nodedata q.proc.nodedata m.nodedata n.nodedata (ap (λ r. r.proc.nodedata) e) h.nodedata k.nodedata i;
+  certdata = some-same p.proc.certdata q.proc.certdata m.certdata n.certdata (ap (λ r. r.proc.certdata) e) h.certdata k.certdata i;
+}
+
+names-same : (i : Input) (problem : LinearProgram) (certificate : Cert) (k : Claims i problem certificate) (n : SetNames) → NamesSets i Check n → n ≡ k.names
+names-same i problem certificate k n h = one-names h.program k.program n k.names (program-same i problem certificate k h.program h.reads) h.stands k.stands
+
+name-same : (i : Input) (problem : LinearProgram) (certificate : Cert) (k : Claims i problem certificate) (n : SetNames) → NamesSets i Check n
+    → (s : SetName) → HasName i.held (name_of n s) (bytes_of k.sets s)
+name-same i problem certificate k n h s = rw (names-same i problem certificate k n h) (has-set i.held k.names k.sets k.holds s)
+
+sets-same : (i : Input) (problem : LinearProgram) (certificate : Cert) (k : Claims i problem certificate) (sets : Sets) → FetchesSets i Check sets
     → (s : SetName) → bytes_of sets s ≡ bytes_of k.sets s
 sets-same i problem certificate k sets h s =
-    bytes-same k.library (name_of h.program s) _ _ (rw k.tells at (has-set i.held h.program sets h.held s)) (rw k.tells at (name-same i problem certificate k h.program h.reads s))
+    bytes-same k.library (name_of h.names s) _ _ (rw k.tells at (has-set i.held h.names sets h.held s)) (rw k.tells at (name-same i problem certificate k h.names h.named s))
 
 -- each set is a table
 has-table : (i : Input) (problem : LinearProgram) (certificate : Cert) (k : Claims i problem certificate) (s : SetName) → (g : Grid) × IsTable (bytes_of k.sets s) g
@@ -116,7 +150,7 @@ claimed-twice f a b p q x y e g h k = cc
 never-claimed : {E : Type 0} (f : Grid → LinearProgram → Result Cert E) (a b : Grid) (p q : LinearProgram) (x : E) (y : Cert) → a ≡ b → p ≡ q → f a p ≡ Err x → f b q ≡ Ok y → ⊥
 never-claimed f a b p q x y e g h k = cc (e, g, h, k)
 
-problem-same : (i : Input) (problem : LinearProgram) (certificate : Cert) (k : Claims i problem certificate) (sets : Sets) (q : LinearProgram) → PosesProblem i sets q → q ≡ problem
+problem-same : (i : Input) (problem : LinearProgram) (certificate : Cert) (k : Claims i problem certificate) (sets : Sets) (q : LinearProgram) → PosesProblem i Check sets q → q ≡ problem
 problem-same i problem certificate k sets q h =
     let same = sets-same i problem certificate k sets h.fetches in
     posed-twice network_read h.posed.arcs h.posed.nodes k.posed.arcs k.posed.nodes q problem
@@ -127,66 +161,85 @@ problem-same i problem certificate k sets q h =
 certificate-same : (i : Input) (problem : LinearProgram) (certificate : Cert) (k : Claims i problem certificate) (q : LinearProgram) (x : Cert) → ReadsCertificate i q x → x ≡ certificate
 certificate-same i problem certificate k q x h =
     let same = sets-same i problem certificate k h.sets h.poses.fetches in
-    claimed-twice (λ t p. cert_read t (length p.columns) (length p.rows)) h.claimed.table k.claimed.table q problem x certificate
+    claimed-twice (λ t p. best_read t (length p.columns) (length p.rows)) h.claimed.table k.claimed.table q problem x certificate
     (read-twice table_read _ _ _ _ (same set.Certdata) h.claimed.table_is k.claimed.table_is)
     (problem-same i problem certificate k h.sets q h.poses) h.claimed.claimed k.claimed.claimed
 
-not-valid : (p q : LinearProgram) (c : Cert) (flows duals : List ℚ) (w : Why) → q ≡ p → c ≡ cert.Best flows duals → IsValidBest p flows duals → IsAnswer q c (checked.No w) → ⊥
-not-valid p q c flows duals w e f h k = (rw (e, f) at k).0 h
+never-answered : (p : LinearProgram) (c : Cert) (w : Why) → IsValid p c → IsAnswer p c (checked.No w) → ⊥
+never-answered p (cert.Best flows duals) w v h = h.0 v
+never-answered p (cert.Farkas duals) w v h = h.0 v
+never-answered p (cert.Ray flows ray) w v h = h.0 v
+
+not-valid : (p q : LinearProgram) (c d : Cert) (w : Why) → q ≡ p → c ≡ d → IsValid p d → IsAnswer q c (checked.No w) → ⊥
+not-valid p q c d w e f v h = never-answered p d w v (rw (e, f) at h)
 
 -- the one refusal of a valid certificate
 abbrev IsRange : Refusal → Type 0
 IsRange (refusal.Range passed) = Unit {0}
 IsRange _ = ⊥
 
-no-text : (i : Input) (problem : LinearProgram) (certificate : Cert) (k : Claims i problem certificate) (text : List ℕ) → Consumes i.left i.rest text
-    → (most_program < length text) ⊎ (IsAtEnd i.rest × IsNoProgram text) → ⊥
-no-text i problem certificate k text h (inl long) =
+no-text : (i : Input) (problem : LinearProgram) (certificate : Cert) (k : Claims i problem certificate) (c : Command) (text : List ℕ) (f : StmtFault) → IsCommand c i.words
+    → Consumes i.left i.rest text → HasFault c text f → (most_program < length text) ⊎ IsAtEnd i.rest → ⊥
+no-text i problem certificate k Run text f words h fault why = not-both i.words k.words words
+no-text i problem certificate k Check text f words h fault (inl long) =
     let within = front-consumed i.rest k.text text (rw k.told at h) in
-    omega (arith, long, within, program-short k.text k.program k.spelled)
-no-text i problem certificate k text h (inr (ended, none)) =
-    none k.program (rw (all-consumed i.rest k.text text (rw k.told at h) ended) at k.spelled)
+    omega (arith, long, within, k.spelled.0)
+no-text i problem certificate k Check text f words h fault (inr ended) =
+    never_both Check text k.program f (rw (all-consumed i.rest k.text text (rw k.told at h) ended) at k.spelled) fault
 
-refused-range : (i : Input) (problem : LinearProgram) (flows duals : List ℚ) (k : Claims i problem (cert.Best flows duals)) → IsValidBest problem flows duals
+pub stands-here : (p q : Program) → p ≡ q → (n : SetNames) → StandsForCheck q n → IsStanding Check p
+stands-here p q e n h = rw e (n, h)
+
+not-taken : (i : Input) (problem : LinearProgram) (certificate : Cert) (k : Claims i problem certificate) (c : Command) (p : Program) → ReadsProgram i c p → (IsStanding c p → ⊥) → ⊥
+not-taken i problem certificate k Run p reads none = not-both i.words k.words reads.words
+not-taken i problem certificate k Check p reads none = none (stands-here p k.program (program-same i problem certificate k p reads) k.names k.stands)
+
+refused-range : (i : Input) (problem : LinearProgram) (certificate : Cert) (k : Claims i problem certificate) → IsValid problem certificate
     → (Rose i.source_faults i.source_faults_after → ⊥) → (Rose i.fetch_faults i.fetch_faults_after → ⊥) → (r : Refusal) → Refuses i r → IsRange r
-refused-range i problem flows duals k v s l refusal.Usage h = h k.words
-refused-range i problem flows duals k v s l refusal.NoProgram (words, text, taken, why) = no-text i problem _ k text taken why
-refused-range i problem flows duals k v s l refusal.ReadFault (words, inl rose) = s rose
-refused-range i problem flows duals k v s l refusal.ReadFault (words, inr (p, reads, rose)) = l rose
-refused-range i problem flows duals k v s l (refusal.Absent name) (p, set, reads, before, is, lacks, rose) =
+refused-range i problem certificate k v s l refusal.Usage h = h Check k.words
+refused-range i problem certificate k v s l (refusal.NoProgram fault) (c, words, text, taken, found, why) = no-text i problem _ k c text fault words taken found why
+refused-range i problem certificate k v s l refusal.NotStanding (c, p, reads, none) = not-taken i problem _ k c p reads none
+refused-range i problem certificate k v s l refusal.ReadFault (c, words, inl rose) = s rose
+refused-range i problem certificate k v s l refusal.ReadFault (c, words, inr (n, named, rose)) = l rose
+refused-range i problem certificate k v s l (refusal.Absent name) (Run, p, set, fetches, reads, before, is, lacks, rose) = not-both i.words k.words reads.reads.words
+refused-range i problem certificate k v s l (refusal.Absent name) (Check, p, set, fetches, reads, before, is, lacks, rose) =
     never-lacks k.library (name_of p set) _ (rw k.tells at (name-same i problem _ k p reads set)) (rw k.tells at (rw is at lacks))
-refused-range i problem flows duals k v s l (refusal.TooLong set) (p, reads, before, many) =
+refused-range i problem certificate k v s l (refusal.TooLong set) (Run, p, fetches, reads, before, many) = not-both i.words k.words reads.reads.words
+refused-range i problem certificate k v s l (refusal.TooLong set) (Check, p, fetches, reads, before, many) =
     let t = has-table i problem _ k set in
     never-many k.library (name_of p set) _ (rw k.tells at (name-same i problem _ k p reads set)) (table-short _ t.0 t.1) (rw k.tells at many)
-refused-range i problem flows duals k v s l (refusal.NoTable set fault) (sets, fetches, before, e) =
+refused-range i problem certificate k v s l (refusal.NoTable set fault) (Run, sets, here, fetches, before, e) = not-both i.words k.words fetches.named.reads.words
+refused-range i problem certificate k v s l (refusal.NoTable set fault) (Check, sets, here, fetches, before, e) =
     let t = has-table i problem _ k set in
     never-both table_read _ _ fault t.0 (sets-same i problem _ k sets fetches set) e t.1
-refused-range i problem flows duals k v s l (refusal.NoNetwork fault) (sets, fetches, t, tables, e) =
+refused-range i problem certificate k v s l (refusal.NoNetwork fault) (Run, sets, fetches, t, tables, e) = not-both i.words k.words fetches.named.reads.words
+refused-range i problem certificate k v s l (refusal.NoNetwork fault) (Check, sets, fetches, t, tables, e) =
     let same = sets-same i problem _ k sets fetches in
     never-posed network_read _ _ k.posed.arcs k.posed.nodes fault problem
     (read-twice table_read _ _ _ _ (same set.Arcdata) tables.arcdata k.posed.arcs_read)
     (read-twice table_read _ _ _ _ (same set.Nodedata) tables.nodedata k.posed.nodes_read) e k.posed.posed
-refused-range i problem flows duals k v s l (refusal.NoCertificate fault) (sets, q, poses, table, is, e) =
+refused-range i problem certificate k v s l (refusal.NoCertificate fault) (sets, q, poses, table, is, e) =
     let same = sets-same i problem _ k sets poses.fetches in
-    never-claimed (λ t p. cert_read t (length p.columns) (length p.rows)) table k.claimed.table q problem fault _
+    never-claimed (λ t p. best_read t (length p.columns) (length p.rows)) table k.claimed.table q problem fault _
     (read-twice table_read _ _ _ _ (same set.Certdata) is k.claimed.table_is) (problem-same i problem _ k sets q poses) e k.claimed.claimed
-refused-range i problem flows duals k v s l (refusal.NotValid why) (q, x, reads, answered) =
-    not-valid problem q x flows duals why (problem-same i problem _ k reads.sets q reads.poses) (certificate-same i problem _ k q x reads) v answered
-refused-range i problem flows duals k v s l (refusal.Range passed) h = tt
+refused-range i problem certificate k v s l (refusal.NotValid why) (q, x, reads, answered) =
+    not-valid problem q x certificate why (problem-same i problem _ k reads.sets q reads.poses) (certificate-same i problem _ k q x reads) v answered
+refused-range i problem certificate k v s l (refusal.Range passed) h = tt
 
 -- a valid certificate is accepted where nothing fails
 pub accepts-valid : (c : Call) (s : Status) → Comes c s → AcceptsTheValid c s
-accepts-valid c status.Finished h = λ p x y n k v. inl refl
-accepts-valid c status.Usage h = λ p x y n k v. absurd (refused-range c.input p x y k v n.source n.library refusal.Usage h.0)
-accepts-valid c status.ProgramRefused h = λ p x y n k v. absurd (refused-range c.input p x y k v n.source n.library refusal.NoProgram h.0)
-accepts-valid c status.DataRefused (inl (set, (h, l))) = λ p x y n k v. absurd (refused-range c.input p x y k v n.source n.library (refusal.TooLong set) h)
-accepts-valid c status.DataRefused (inr (inl (set, fault, (h, l)))) = λ p x y n k v. absurd (refused-range c.input p x y k v n.source n.library (refusal.NoTable set fault) h)
-accepts-valid c status.DataRefused (inr (inr (fault, (h, l)))) = λ p x y n k v. absurd (refused-range c.input p x y k v n.source n.library (refusal.NoNetwork fault) h)
-accepts-valid c status.ReadFault h = λ p x y n k v. absurd (refused-range c.input p x y k v n.source n.library refusal.ReadFault h.0)
-accepts-valid c status.WriteFault h = λ p x y n k v. absurd (n.listing h.0)
-accepts-valid c status.Absent (name, (h, l)) = λ p x y n k v. absurd (refused-range c.input p x y k v n.source n.library (refusal.Absent name) h)
-accepts-valid c status.RangePassed h = λ p x y n k v. inr (inl refl)
-accepts-valid c status.CheckRefused (inl (fault, (h, l))) = λ p x y n k v. absurd (refused-range c.input p x y k v n.source n.library (refusal.NoCertificate fault) h)
-accepts-valid c status.CheckRefused (inr (why, (h, l))) = λ p x y n k v. absurd (refused-range c.input p x y k v n.source n.library (refusal.NotValid why) h)
-accepts-valid c status.NoMemory h = λ p x y n k v. inr (inr refl)
+accepts-valid c status.Finished h = λ p x n k v. inl refl
+accepts-valid c status.Usage h = λ p x n k v. absurd (refused-range c.input p x k v n.source n.library refusal.Usage h.0)
+accepts-valid c status.ProgramRefused (inl (fault, (h, l))) = λ p x n k v. absurd (refused-range c.input p x k v n.source n.library (refusal.NoProgram fault) h)
+accepts-valid c status.ProgramRefused (inr (h, l)) = λ p x n k v. absurd (refused-range c.input p x k v n.source n.library refusal.NotStanding h)
+accepts-valid c status.DataRefused (inl (set, (h, l))) = λ p x n k v. absurd (refused-range c.input p x k v n.source n.library (refusal.TooLong set) h)
+accepts-valid c status.DataRefused (inr (inl (set, fault, (h, l)))) = λ p x n k v. absurd (refused-range c.input p x k v n.source n.library (refusal.NoTable set fault) h)
+accepts-valid c status.DataRefused (inr (inr (fault, (h, l)))) = λ p x n k v. absurd (refused-range c.input p x k v n.source n.library (refusal.NoNetwork fault) h)
+accepts-valid c status.ReadFault h = λ p x n k v. absurd (refused-range c.input p x k v n.source n.library refusal.ReadFault h.0)
+accepts-valid c status.WriteFault h = λ p x n k v. absurd (n.listing h.0)
+accepts-valid c status.Absent (name, (h, l)) = λ p x n k v. absurd (refused-range c.input p x k v n.source n.library (refusal.Absent name) h)
+accepts-valid c status.RangePassed h = λ p x n k v. inr (inl refl)
+accepts-valid c status.CheckRefused (inl (fault, (h, l))) = λ p x n k v. absurd (refused-range c.input p x k v n.source n.library (refusal.NoCertificate fault) h)
+accepts-valid c status.CheckRefused (inr (why, (h, l))) = λ p x n k v. absurd (refused-range c.input p x k v n.source n.library (refusal.NotValid why) h)
+accepts-valid c status.NoMemory h = λ p x n k v. inr (inr refl)
 accepts-valid c status.WarmRefused h = absurd h

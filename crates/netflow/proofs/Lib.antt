@@ -1,4 +1,6 @@
 pub mod WordFacts
-pub mod ProgramFacts
 pub mod StopFacts
+pub mod PlainFacts
 pub mod CompleteFacts
+pub mod RefusedFacts
+pub mod RunFacts

@@ -1,12 +1,14 @@
--- What the bytes of data sets stand for: the problem and the certificate that a check is about.
+-- What the bytes of data sets stand for: the problem that a run or a check is about, and the certificate of a check.
 -- The headline, and every later command on a problem, rests on it.
 use Rattle.std.specs.Prelude.{◌≡◌, ℕ, List, Ok, length}
+use Rattle.nf_program.specs.declared.program.Command.{Command}
+use Rattle.nf_program.specs.declared.program.Command.TheVariants.{Run, Check}
 use Rattle.nf_table.specs.Grid.{Grid}
 use Rattle.nf_table.specs.Reading.{table_read}
 use Rattle.nf_model.specs.Program.{LinearProgram}
 use Rattle.nf_prob.specs.declared.cert.Cert.{Cert}
 use Rattle.nf_arcs.specs.Network.{network_read}
-use Rattle.nf_cert.specs.Reading.{cert_read}
+use Rattle.nf_cert.specs.Reading.{best_read}
 use Rattle.netflow.specs.declared.sets.SetName.{SetName}
 use Rattle.netflow.specs.declared.sets.SetName.TheVariants as set
 
@@ -32,11 +34,18 @@ bytes_of s set.Certdata = s.certdata
 abbrev pub IsTable : List ℕ → Grid → Type 0
 IsTable bytes table = table_read bytes ≡ Ok table
 
--- All three sets are tables.
-pub record AreTables (s : Sets) (t : Grids) : Type 0 where
+-- A command fetches a set: `run` does not look at CERTDATA.
+abbrev pub Fetches : Command → SetName → Type 0
+Fetches Check set = Unit {0}
+Fetches Run set.Arcdata = Unit {0}
+Fetches Run set.Nodedata = Unit {0}
+Fetches Run set.Certdata = ⊥
+
+-- The sets that a command fetches are tables.
+pub record AreTables (c : Command) (s : Sets) (t : Grids) : Type 0 where
   pub arcdata : IsTable s.arcdata t.arcdata
   pub nodedata : IsTable s.nodedata t.nodedata
-  pub certdata : IsTable s.certdata t.certdata
+  pub certdata : c ≡ Check → IsTable s.certdata t.certdata
 
 -- The sets before this one are tables.
 abbrev pub AreTablesBefore : Sets → SetName → Type 0
@@ -56,4 +65,4 @@ pub record IsProblemOf (arcdata nodedata : List ℕ) (problem : LinearProgram) :
 pub record IsCertificateOf (certdata : List ℕ) (problem : LinearProgram) (certificate : Cert) : Type 0 where
   pub table : Grid
   pub table_is : IsTable certdata table
-  pub claimed : cert_read table (length problem.columns) (length problem.rows) ≡ Ok certificate
+  pub claimed : best_read table (length problem.columns) (length problem.rows) ≡ Ok certificate

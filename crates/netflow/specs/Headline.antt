@@ -1,29 +1,57 @@
--- The headline: what a planner may rely on where a certificate is accepted, and where it must be.
+-- The headline: what a planner may rely on where a certificate is accepted or a run is listed, and where one must be.
 use Rattle.std.specs.Prelude.{◌≡◌, ◌⊎◌, ℕ, List, Some}
 use Rattle.nf_num.specs.Rational.{ℚ}
 use Rattle.nf_io.specs.Causes.{Rose}
 use Rattle.nf_io.specs.Held.{Held}
+use Rattle.nf_program.specs.declared.program.Command.TheVariants.{Check}
+use Rattle.nf_program.specs.declared.program.Program.{Program}
+use Rattle.nf_program.specs.declared.program.StmtFault.{StmtFault}
+use Rattle.nf_program.specs.Grammar.{HasProgram}
+use Rattle.nf_reader.specs.Faults.{HasFault}
 use Rattle.nf_model.specs.Program.{LinearProgram, IsBest, cost_of}
 use Rattle.nf_model.specs.Certificate.{IsValidBest}
+use Rattle.nf_model.specs.Farkas.{HasNoFeasible, IsGap, IsValidFarkas}
+use Rattle.nf_model.specs.Ray.{HasNoLeastCost, IsValidRay}
+use Rattle.nf_run.specs.Runs.{IsListing}
 use Rattle.nf_prob.specs.declared.cert.Cert.{Cert}
 use Rattle.nf_prob.specs.declared.cert.Cert.TheVariants as cert
 use Rattle.netflow.specs.declared.status.Status.{Status}
 use Rattle.netflow.specs.declared.status.Status.TheVariants as status
 use Rattle.netflow.specs.Data.{Sets, IsCertificateOf, IsProblemOf}
-use Rattle.netflow.specs.Lines.{accepted_lines}
-use Rattle.netflow.specs.Outcome.{AreHeld, Call, Input, Lists, ReadsCertificate}
-use Rattle.netflow.specs.Program.{IsProgramOf, Program}
-use Rattle.netflow.specs.Words.{IsCheck}
+use Rattle.netflow.specs.Lines.{accepted_lines, claim_line}
+use Rattle.netflow.specs.Outcome.{AreHeld, Call, Input, Lists, ReadsCertificate, RunsOn}
+use Rattle.netflow.specs.Standing.{IsStanding, SetNames, StandsForCheck}
+use Rattle.netflow.specs.Words.{IsCommand}
 
--- A plan is proved: the data sets of the program stand for this problem, and claim these flows; no feasible flows cost
--- less, and what is listed is their cost.
-pub record PlanIsProved (c : Call) : Type 0 where
+-- What a certificate with this number proves: that no feasible flows cost less than its flows, which cost this; that no
+-- flows are feasible, with this gap; or that the costs of feasible flows have no least, at this rate.
+abbrev pub Proves : LinearProgram → Cert → ℚ → Type 0
+Proves p (cert.Best flows duals) number = IsBest p flows × (number ≡ cost_of p flows)
+Proves p (cert.Farkas duals) number = HasNoFeasible p × IsGap p duals number
+Proves p (cert.Ray flows ray) number = HasNoLeastCost p × (number ≡ cost_of p ray)
+
+-- A claim is proved: the data sets of the program stand for this problem and this certificate, which proves what is
+-- listed.
+pub record ClaimIsProved (c : Call) : Type 0 where
   pub problem : LinearProgram
-  pub flows : List ℚ
-  pub duals : List ℚ
-  pub reads : ReadsCertificate c.input problem (cert.Best flows duals)
-  pub best : IsBest problem flows
-  pub listed : Lists c (accepted_lines (cost_of problem flows))
+  pub certificate : Cert
+  pub reads : ReadsCertificate c.input problem certificate
+  pub number : ℚ
+  pub proves : Proves problem certificate number
+  pub listed : Lists c (accepted_lines (claim_line certificate number))
+
+-- A run is explained: the data sets of the program stand for this problem, and the listing is that of a run of the
+-- program on it, statement by statement. Each line is what it says: OPTIMAL that the flows of the state at which it
+-- comes are feasible, that none cost less, by the state's printed duals, and what they cost; INFEASIBLE and UNBOUNDED
+-- that the state has ended so, with the sum of its artificials, or its rate; HALTED that the program's own limit is
+-- met.
+pub record RunIsExplained (c : Call) : Type 0 where
+  pub program : Program
+  pub problem : LinearProgram
+  pub runs : RunsOn c.input program problem
+  pub text : List ℕ
+  pub listing : IsListing problem program.proc.session program.acts text
+  pub listed : Lists c text
 
 -- No count of faults rose in the call.
 pub record NothingFails (c : Call) : Type 0 where
@@ -31,22 +59,40 @@ pub record NothingFails (c : Call) : Type 0 where
   pub library : Rose c.input.fetch_faults c.input.fetch_faults_after → ⊥
   pub listing : Rose c.sink_faults c.sink_faults_after → ⊥
 
--- Source and library tell what they hold: the source is the text of a program of `check`, and the library has its data
--- sets, which stand for this problem and claim this certificate of it.
+-- Source and library tell what they hold: the source is a text of a program that `check` takes, and the library has its
+-- data sets, which stand for this problem and claim this certificate of it.
 pub record Claims (i : Input) (problem : LinearProgram) (certificate : Cert) : Type 0 where
-  pub words : IsCheck i.words
+  pub words : IsCommand Check i.words
   pub text : List ℕ
   pub told : i.left ≡ Some text
   pub program : Program
-  pub spelled : IsProgramOf text program
+  pub spelled : HasProgram Check text program
+  pub names : SetNames
+  pub stands : StandsForCheck program names
   pub library : Held
   pub tells : i.held ≡ Some library
   pub sets : Sets
-  pub holds : AreHeld i.held program sets
+  pub holds : AreHeld Check i.held names sets
   pub posed : IsProblemOf sets.arcdata sets.nodedata problem
   pub claimed : IsCertificateOf sets.certdata problem certificate
 
+-- A certificate is valid.
+abbrev pub IsValid : LinearProgram → Cert → Type 0
+IsValid p (cert.Best flows duals) = IsValidBest p flows duals
+IsValid p (cert.Farkas duals) = IsValidFarkas p duals
+IsValid p (cert.Ray flows ray) = IsValidRay p flows ray
+
 -- Where nothing fails, a valid certificate is accepted, unless a number passes 128 bits or memory runs out.
 abbrev pub AcceptsTheValid : Call → Status → Type 0
-AcceptsTheValid c s = (problem : LinearProgram) (flows duals : List ℚ) → NothingFails c → Claims c.input problem (cert.Best flows duals) → IsValidBest problem flows duals
+AcceptsTheValid c s = (problem : LinearProgram) (certificate : Cert) → NothingFails c → Claims c.input problem certificate → IsValid problem certificate
     → (s ≡ status.Finished) ⊎ (s ≡ status.RangePassed) ⊎ (s ≡ status.NoMemory)
+
+-- No program that `check` takes has the text: it has a fault, that of too many bytes among them, or is a program that
+-- `check` does not take.
+abbrev pub IsNotTaken : List ℕ → Type 0
+IsNotTaken text = ((f : StmtFault) × HasFault Check text f) ⊎ ((p : Program) × HasProgram Check text p × (IsStanding Check p → ⊥))
+
+-- Where nothing fails, such a text is refused as a program, unless memory runs out.
+abbrev pub RefusesNoProgram : Call → Status → Type 0
+RefusesNoProgram c s = (text : List ℕ) → NothingFails c → IsCommand Check c.input.words → c.input.left ≡ Some text → IsNotTaken text
+    → (s ≡ status.ProgramRefused) ⊎ (s ≡ status.NoMemory)

@@ -1,7 +1,6 @@
 pub mod Status
 pub mod Words
-pub mod Program
-pub mod Pieces
+pub mod Standing
 pub mod Data
 pub mod Lines
 pub mod Outcome

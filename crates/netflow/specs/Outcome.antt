@@ -1,26 +1,30 @@
 -- When each status comes: what a call saw before it, and what its listing got. The contract of the program rests on it.
-use Rattle.std.specs.Prelude.{◌≡◌, ◌<◌, ◌⊎◌, ℕ, List, [], Option, Err, length}
+use Rattle.std.specs.Prelude.{◌≡◌, ◌<◌, ◌⊎◌, ◌++◌, ℕ, List, [], Option, Err, length}
 use Rattle.std.specs.Io.KnownBytes.{Appends, Consumes, IsAtEnd}
 use Rattle.nf_num.specs.Rational.{ℚ}
 use Rattle.nf_frac.specs.declared.passed.Passed.{Passed}
 use Rattle.nf_io.specs.Causes.{Rose}
 use Rattle.nf_io.specs.Held.{Held, HasName, HasTooMany, LacksName}
 use Rattle.nf_io.specs.Progress.{PutPrefix}
+use Rattle.nf_program.specs.declared.program.Command.{Command}
+use Rattle.nf_program.specs.declared.program.Command.TheVariants.{Run, Check}
+use Rattle.nf_program.specs.declared.program.Program.{Program}
+use Rattle.nf_program.specs.declared.program.StmtFault.{StmtFault}
+use Rattle.nf_program.specs.Grammar.{HasProgram}
+use Rattle.nf_reader.specs.Faults.{HasFault}
 use Rattle.nf_table.specs.Grid.{Grid}
 use Rattle.nf_table.specs.Reading.{table_read}
 use Rattle.nf_table.specs.declared.table.TableFault.{TableFault}
-use Rattle.nf_model.specs.Program.{LinearProgram, IsBest, cost_of}
-use Rattle.nf_model.specs.Certificate.{IsValidBest}
+use Rattle.nf_model.specs.Program.{LinearProgram}
 use Rattle.nf_prob.specs.declared.cert.Cert.{Cert}
-use Rattle.nf_prob.specs.declared.cert.Cert.TheVariants as cert
 use Rattle.nf_prob.specs.declared.cert.Checked.TheVariants as checked
 use Rattle.nf_prob.specs.declared.cert.Why.{Why}
 use Rattle.nf_prob.specs.Arising.{CheckTerms}
-use Rattle.nf_prob.specs.Terms.{PassesIn}
+use Rattle.nf_sums.specs.Terms.{PassesIn}
 use Rattle.nf_prob.specs.Verdict.{IsAnswer}
 use Rattle.nf_arcs.specs.Network.{network_read}
 use Rattle.nf_arcs.specs.declared.fault.NetworkFault.{NetworkFault}
-use Rattle.nf_cert.specs.Reading.{cert_read}
+use Rattle.nf_cert.specs.Reading.{best_read}
 use Rattle.nf_cert.specs.declared.fault.CertFault.{CertFault}
 use Rattle.netflow.specs.declared.refusal.Refusal.{Refusal}
 use Rattle.netflow.specs.declared.refusal.Refusal.TheVariants as refusal
@@ -28,10 +32,12 @@ use Rattle.netflow.specs.declared.sets.SetName.{SetName}
 use Rattle.netflow.specs.declared.sets.SetName.TheVariants as set
 use Rattle.netflow.specs.declared.status.Status.{Status}
 use Rattle.netflow.specs.declared.status.Status.TheVariants as status
-use Rattle.netflow.specs.Data.{Grids, Sets, AreTables, AreTablesBefore, IsCertificateOf, IsProblemOf, IsTable, bytes_of}
-use Rattle.netflow.specs.Lines.{accepted_lines, refusal_line}
-use Rattle.netflow.specs.Program.{IsNoProgram, IsProgramOf, Program, most_program}
-use Rattle.netflow.specs.Words.{IsCheck}
+use Rattle.nf_run.specs.declared.line.HaltLine.{HaltLine}
+use Rattle.nf_run.specs.Runs.{IsCut, IsFront, IsListing}
+use Rattle.netflow.specs.Data.{Fetches, Grids, Sets, AreTables, AreTablesBefore, IsCertificateOf, IsProblemOf, IsTable, bytes_of}
+use Rattle.netflow.specs.Lines.{accepted_lines, claim_line, refusal_line, step_range_line}
+use Rattle.netflow.specs.Standing.{IsStanding, SetNames, StandsFor, StandsForRun, most_program}
+use Rattle.netflow.specs.Words.{IsCommand}
 
 -- What a call took in: its words, and its source and library before and after.
 pub record Input : Type 0 where
@@ -55,86 +61,110 @@ pub record Call : Type 0 where
   pub sink_faults_after : ℕ
 
 -- ---- what was met, in the order of answers
--- The words are those of `check`, and the whole source is the text of this program.
-pub record ReadsProgram (i : Input) (p : Program) : Type 0 where
-  pub words : IsCheck i.words
+-- The words are those of the command, and the whole source is a text of this program.
+pub record ReadsProgram (i : Input) (c : Command) (p : Program) : Type 0 where
+  pub words : IsCommand c i.words
   pub text : List ℕ
   pub taken : Consumes i.left i.rest text
   pub ended : IsAtEnd i.rest
-  pub spelled : IsProgramOf text p
+  pub spelled : HasProgram c text p
+
+-- The program that was read is one that the command takes, and names these data sets.
+pub record NamesSets (i : Input) (c : Command) (n : SetNames) : Type 0 where
+  pub program : Program
+  pub reads : ReadsProgram i c program
+  pub stands : StandsFor c program n
 
 -- The name of a data set in a program.
-abbrev pub name_of : Program → SetName → List ℕ
-name_of p set.Arcdata = p.arcdata
-name_of p set.Nodedata = p.nodedata
-name_of p set.Certdata = p.certdata
+abbrev pub name_of : SetNames → SetName → List ℕ
+name_of n set.Arcdata = n.arcdata
+name_of n set.Nodedata = n.nodedata
+name_of n set.Certdata = n.certdata
 
--- The library holds these bytes under the names of the program.
-pub record AreHeld (held : Option Held) (p : Program) (s : Sets) : Type 0 where
-  pub arcdata : HasName held p.arcdata s.arcdata
-  pub nodedata : HasName held p.nodedata s.nodedata
-  pub certdata : HasName held p.certdata s.certdata
+-- The library holds these bytes under the names of the sets that the command fetches.
+pub record AreHeld (c : Command) (held : Option Held) (n : SetNames) (s : Sets) : Type 0 where
+  pub arcdata : HasName held n.arcdata s.arcdata
+  pub nodedata : HasName held n.nodedata s.nodedata
+  pub certdata : c ≡ Check → HasName held n.certdata s.certdata
 
 -- The library holds the sets before this one.
-abbrev pub AreHeldBefore : Option Held → Program → SetName → Type 0
-AreHeldBefore held p set.Arcdata = Unit {0}
-AreHeldBefore held p set.Nodedata = (arcs : List ℕ) × HasName held p.arcdata arcs
-AreHeldBefore held p set.Certdata = (arcs nodes : List ℕ) × HasName held p.arcdata arcs × HasName held p.nodedata nodes
+abbrev pub AreHeldBefore : Option Held → SetNames → SetName → Type 0
+AreHeldBefore held n set.Arcdata = Unit {0}
+AreHeldBefore held n set.Nodedata = (arcs : List ℕ) × HasName held n.arcdata arcs
+AreHeldBefore held n set.Certdata = (arcs nodes : List ℕ) × HasName held n.arcdata arcs × HasName held n.nodedata nodes
 
 -- The program was read, and these are the bytes of its data sets.
-pub record FetchesSets (i : Input) (s : Sets) : Type 0 where
-  pub program : Program
-  pub reads : ReadsProgram i program
-  pub held : AreHeld i.held program s
+pub record FetchesSets (i : Input) (c : Command) (s : Sets) : Type 0 where
+  pub names : SetNames
+  pub named : NamesSets i c names
+  pub held : AreHeld c i.held names s
 
 -- The data sets were fetched, and stand for this problem.
-pub record PosesProblem (i : Input) (s : Sets) (problem : LinearProgram) : Type 0 where
-  pub fetches : FetchesSets i s
+pub record PosesProblem (i : Input) (c : Command) (s : Sets) (problem : LinearProgram) : Type 0 where
+  pub fetches : FetchesSets i c s
   pub posed : IsProblemOf s.arcdata s.nodedata problem
 
 -- They stand for this problem, and for this certificate of it.
 pub record ReadsCertificate (i : Input) (problem : LinearProgram) (certificate : Cert) : Type 0 where
   pub sets : Sets
-  pub poses : PosesProblem i sets problem
+  pub poses : PosesProblem i Check sets problem
   pub claimed : IsCertificateOf sets.certdata problem certificate
 
+-- The program was read for `run`, which takes it, and its data sets stand for this problem.
+pub record RunsOn (i : Input) (program : Program) (problem : LinearProgram) : Type 0 where
+  pub reads : ReadsProgram i Run program
+  pub names : SetNames
+  pub stands : StandsForRun program names
+  pub sets : Sets
+  pub held : AreHeld Run i.held names sets
+  pub posed : IsProblemOf sets.arcdata sets.nodedata problem
+
 -- ---- answers
--- The certificate is accepted: its flows are best, as its duals prove, and they cost this.
-pub record Accepts (i : Input) (cost : ℚ) : Type 0 where
+-- The certificate is accepted: it is valid, with this number, and proves what the line says.
+pub record Accepts (i : Input) (line : HaltLine) : Type 0 where
   pub problem : LinearProgram
-  pub flows : List ℚ
-  pub duals : List ℚ
-  pub reads : ReadsCertificate i problem (cert.Best flows duals)
-  pub valid : IsValidBest problem flows duals
-  pub best : IsBest problem flows
-  pub total : cost ≡ cost_of problem flows
+  pub certificate : Cert
+  pub reads : ReadsCertificate i problem certificate
+  pub number : ℚ
+  pub valid : IsAnswer problem certificate (checked.Yes number)
+  pub told : line ≡ claim_line certificate number
 
 -- The cause of each refusal, and what was met before it.
 abbrev pub Refuses : Input → Refusal → Type 0
 -- the words are no command
-Refuses i refusal.Usage = IsCheck i.words → ⊥
--- the source gave a text that is too long, or gave all of its text, which no program has
-Refuses i refusal.NoProgram = IsCheck i.words × (text : List ℕ) × Consumes i.left i.rest text × ((most_program < length text) ⊎ (IsAtEnd i.rest × IsNoProgram text))
+Refuses i refusal.Usage = (c : Command) → IsCommand c i.words → ⊥
+-- the source gave a text with this first fault: all of its text, or one that is too long
+Refuses i (refusal.NoProgram fault) = (c : Command) × IsCommand c i.words × (text : List ℕ) × Consumes i.left i.rest text × HasFault c text fault × ((most_program < length text) ⊎ IsAtEnd i.rest)
+-- a program was read that the command does not take yet
+Refuses i refusal.NotStanding = (c : Command) × (p : Program) × ReadsProgram i c p × (IsStanding c p → ⊥)
 -- the count of the source's faults rose, or, for a program that was read, that of failed fetches
-Refuses i refusal.ReadFault = IsCheck i.words × (Rose i.source_faults i.source_faults_after ⊎ ((p : Program) × ReadsProgram i p × Rose i.fetch_faults i.fetch_faults_after))
+Refuses i refusal.ReadFault = (c : Command) × IsCommand c i.words × (Rose i.source_faults i.source_faults_after ⊎ ((n : SetNames) × NamesSets i c n × Rose i.fetch_faults i.fetch_faults_after))
 -- the library lacks a data set of the program, and has those before it
-Refuses i (refusal.Absent name) = (p : Program) × (s : SetName) × ReadsProgram i p × AreHeldBefore i.held p s × (name ≡ name_of p s) × LacksName i.held name × Rose (i.misses name) (i.misses_after name)
+Refuses i (refusal.Absent name) = (c : Command) × (n : SetNames) × (s : SetName) × Fetches c s × NamesSets i c n × AreHeldBefore i.held n s × (name ≡ name_of n s) × LacksName i.held name × Rose (i.misses name) (i.misses_after name)
 -- a data set of the program has too many bytes, and those before it are held
-Refuses i (refusal.TooLong s) = (p : Program) × ReadsProgram i p × AreHeldBefore i.held p s × HasTooMany i.held (name_of p s)
+Refuses i (refusal.TooLong s) = (c : Command) × (n : SetNames) × Fetches c s × NamesSets i c n × AreHeldBefore i.held n s × HasTooMany i.held (name_of n s)
 -- this is the first fault of the first data set that is no table
-Refuses i (refusal.NoTable s fault) = (sets : Sets) × FetchesSets i sets × AreTablesBefore sets s × (table_read (bytes_of sets s) ≡ Err fault)
+Refuses i (refusal.NoTable s fault) = (c : Command) × (sets : Sets) × Fetches c s × FetchesSets i c sets × AreTablesBefore sets s × (table_read (bytes_of sets s) ≡ Err fault)
 -- all are tables, and those of ARCDATA and NODEDATA are no network
-Refuses i (refusal.NoNetwork fault) = (sets : Sets) × FetchesSets i sets × (t : Grids) × AreTables sets t × (network_read t.arcdata t.nodedata ≡ Err fault)
+Refuses i (refusal.NoNetwork fault) = (c : Command) × (sets : Sets) × FetchesSets i c sets × (t : Grids) × AreTables c sets t × (network_read t.arcdata t.nodedata ≡ Err fault)
 -- the problem is there, and this is the first fault of the certificate's table
-Refuses i (refusal.NoCertificate fault) = (sets : Sets) × (problem : LinearProgram) × PosesProblem i sets problem × (table : Grid) × IsTable sets.certdata table × (cert_read table (length problem.columns) (length problem.rows) ≡ Err fault)
+Refuses i (refusal.NoCertificate fault) = (sets : Sets) × (problem : LinearProgram) × PosesProblem i Check sets problem × (table : Grid) × IsTable sets.certdata table × (best_read table (length problem.columns) (length problem.rows) ≡ Err fault)
 -- problem and certificate are there, and this is the first place where it is not valid
 Refuses i (refusal.NotValid why) = (problem : LinearProgram) × (certificate : Cert) × ReadsCertificate i problem certificate × IsAnswer problem certificate (checked.No why)
 -- problem and certificate are there, and this operation of their check passes 128 bits
 Refuses i (refusal.Range passed) = (problem : LinearProgram) × (certificate : Cert) × ReadsCertificate i problem certificate × PassesIn (CheckTerms problem certificate) passed
 
--- The line that is due.
+-- A text of a run on the problem of the call: the listing of its first statements, or of those before an operation that
+-- passes 128 bits, with the line that tells it.
+abbrev pub IsOfRun : Input → List ℕ → Type 0
+IsOfRun i text =
+    (program : Program) × (problem : LinearProgram) × RunsOn i program problem
+    × (IsFront problem program.proc.session program.acts text
+    ⊎ ((front : List ℕ) × (pivots : ℕ) × (passed : Passed) × IsCut problem program.proc.session program.acts front pivots passed × (text ≡ front ++ step_range_line pivots passed)))
+
+-- The text that is due.
 abbrev pub IsDue : Input → List ℕ → Type 0
-IsDue i line = ((cost : ℚ) × Accepts i cost × (line ≡ accepted_lines cost)) ⊎ ((r : Refusal) × Refuses i r × (line ≡ refusal_line r))
+IsDue i text = ((line : HaltLine) × Accepts i line × (text ≡ accepted_lines line)) ⊎ ((r : Refusal) × Refuses i r × (text ≡ refusal_line r)) ⊎ IsOfRun i text
 
 -- ---- the listing, and the statuses
 -- This call has added these bytes to the listing.
@@ -147,17 +177,24 @@ Refused c r = Refuses c.input r × Lists c (refusal_line r)
 
 -- When each status comes.
 abbrev pub Comes : Call → Status → Type 0
-Comes c status.Finished = (cost : ℚ) × Accepts c.input cost × Lists c (accepted_lines cost)
+-- `check` accepted the certificate, or `run` obeyed the whole program
+Comes c status.Finished =
+    ((line : HaltLine) × Accepts c.input line × Lists c (accepted_lines line))
+    ⊎ ((program : Program) × (problem : LinearProgram) × RunsOn c.input program problem × (text : List ℕ) × IsListing problem program.proc.session program.acts text × Lists c text)
 Comes c status.Usage = Refused c refusal.Usage
-Comes c status.ProgramRefused = Refused c refusal.NoProgram
+Comes c status.ProgramRefused = ((fault : StmtFault) × Refused c (refusal.NoProgram fault)) ⊎ Refused c refusal.NotStanding
 Comes c status.DataRefused = ((s : SetName) × Refused c (refusal.TooLong s)) ⊎ ((s : SetName) × (fault : TableFault) × Refused c (refusal.NoTable s fault)) ⊎ ((fault : NetworkFault) × Refused c (refusal.NoNetwork fault))
 Comes c status.ReadFault = Refused c refusal.ReadFault
 Comes c status.Absent = (name : List ℕ) × Refused c (refusal.Absent name)
-Comes c status.RangePassed = (passed : Passed) × Refused c (refusal.Range passed)
+-- an operation of the check passes 128 bits, or one of the run, behind the listing of the statements before
+Comes c status.RangePassed =
+    ((passed : Passed) × Refused c (refusal.Range passed))
+    ⊎ ((program : Program) × (problem : LinearProgram) × RunsOn c.input program problem × (front : List ℕ) × (pivots : ℕ) × (passed : Passed)
+    × IsCut problem program.proc.session program.acts front pivots passed × Lists c (front ++ step_range_line pivots passed))
 Comes c status.CheckRefused = ((fault : CertFault) × Refused c (refusal.NoCertificate fault)) ⊎ ((why : Why) × Refused c (refusal.NotValid why))
--- the listing failed in the line that is due, of which a first part was written
+-- the listing failed in the text that is due, of which a first part was written
 Comes c status.WriteFault = Rose c.sink_faults c.sink_faults_after × (line : List ℕ) × IsDue c.input line × PutPrefix c.written c.put line
--- memory ran out, before a line was due or within it
+-- memory ran out, before a text was due or within it
 Comes c status.NoMemory = Lists c [] ⊎ ((line : List ℕ) × IsDue c.input line × PutPrefix c.written c.put line)
--- it comes with saved tables alone, which `check` does not read
+-- it comes with saved tables alone, which no command reads yet
 Comes c status.WarmRefused = ⊥

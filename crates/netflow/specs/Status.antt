@@ -22,7 +22,8 @@ status_number status.WarmRefused = 11
 -- A refusal ends the call with this status.
 abbrev pub refusal_status : Refusal → Status
 refusal_status refusal.Usage = status.Usage
-refusal_status refusal.NoProgram = status.ProgramRefused
+refusal_status (refusal.NoProgram fault) = status.ProgramRefused
+refusal_status refusal.NotStanding = status.ProgramRefused
 refusal_status refusal.ReadFault = status.ReadFault
 refusal_status (refusal.Absent name) = status.Absent
 refusal_status (refusal.TooLong set) = status.DataRefused

@@ -1,6 +1,9 @@
 -- Which words are a command: what comes before anything is read rests on it.
 use Rattle.std.specs.Prelude.{◌≡◌, ◌∷◌, ℕ, List, [], codes}
+use Rattle.nf_program.specs.declared.program.Command.{Command}
+use Rattle.nf_program.specs.declared.program.Command.TheVariants.{Run, Check}
 
--- The words of `check` are this one word.
-abbrev pub IsCheck : List (List ℕ) → Type 0
-IsCheck words = words ≡ codes "check" ∷ []
+-- The words of a command are one word.
+abbrev pub IsCommand : Command → List (List ℕ) → Type 0
+IsCommand Check words = words ≡ codes "check" ∷ []
+IsCommand Run words = words ≡ codes "run" ∷ []

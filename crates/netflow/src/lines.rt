@@ -1,15 +1,18 @@
 //! The lines of the listing, each with its line feed. `AllocError` where there is no memory for a line.
-ghost use Rattle.std.specs.Prelude.{◌≡◌, ◌++◌, IfOk, codes};
-ghost use Rattle.netflow.specs.Lines.{accepted_lines, cert_line, network_line, range_line, table_line, too_long_line, why_line};
+ghost use Rattle.std.specs.Prelude.{◌≡◌, ◌++◌, IfOk, Some, codes};
+ghost use Rattle.netflow.specs.Lines.{accepted_lines, cert_line, network_line, operation_text, program_line, range_line, step_range_line, table_line, too_long_line, why_line};
 
 use crate::sets::SetName;
 use nf_arcs::NetworkFault;
 use nf_cert::CertFault;
-use nf_frac::{Frac, Passed};
+use nf_frac::Passed;
 use nf_io::Text;
 use nf_prob::Why;
+use nf_run::HaltLine;
+use nf_stmt::StmtFault;
 use nf_table::TableFault;
 use std::alloc::{AllocError, Global};
+use std::fmt;
 
 /// What the words may be.
 pub(crate) const USAGE: &str =
@@ -32,14 +35,22 @@ pub(crate) fn named(alloc: Global, words: &str, name: &Text) -> Result<Text, All
     Ok(text)
 }
 
-/// The certificate is accepted; its flows cost this.
-pub(crate) fn accepted(alloc: Global, cost: Frac) -> Result<Text, AllocError>
-    ensures { IfOk result (λ t. t ≡ accepted_lines cost) }
+/// A text is no program: the place and the kind of its first fault.
+pub(crate) fn no_program(alloc: Global, fault: &StmtFault) -> Result<Text, AllocError>
+    ensures { IfOk result (λ t. t ≡ program_line fault.now) }
 {
+    let StmtFault { at, kind } = *fault;
     plain(
         alloc,
-        format!(in alloc; "ACCEPTED OPTIMAL\nTOTAL COST {cost}\n")?.as_str(),
+        format!(in alloc; "PROGRAM REFUSED AT {at}: {kind}\n")?.as_str(),
     )
+}
+
+/// The certificate is accepted, and this is what it claims.
+pub(crate) fn accepted(alloc: Global, line: HaltLine) -> Result<Text, AllocError>
+    ensures { IfOk result (λ t. t ≡ accepted_lines line) }
+{
+    plain(alloc, format!(in alloc; "ACCEPTED {line}")?.as_str())
 }
 
 /// A data set has too many bytes.
@@ -140,16 +151,45 @@ pub(crate) fn not_valid(alloc: Global, why: Why) -> Result<Text, AllocError>
             )
         }
         Why::Dual(i) => plain(alloc, format!(in alloc; "REFUSED DUAL {i}\n")?.as_str()),
+        Why::Column(j) => plain(alloc, format!(in alloc; "REFUSED COLUMN C{j}\n")?.as_str()),
+        Why::Gap(gap) => plain(alloc, format!(in alloc; "REFUSED GAP {gap}\n")?.as_str()),
+        Why::RayColumn(j) => plain(alloc, format!(in alloc; "REFUSED RAY C{j}\n")?.as_str()),
+        Why::RayRow(i) => plain(alloc, format!(in alloc; "REFUSED RAY ROW {i}\n")?.as_str()),
+        Why::Rate(rate) => plain(alloc, format!(in alloc; "REFUSED RATE {rate}\n")?.as_str()),
     }
 }
 
-/// A number of the check passes 128 bits.
+// An operation on two fractions, as a line tells it.
+#[derive(Drop)]
+struct Operation(Passed);
+
+impl fmt::Display for Operation {
+    ghost output = { λ o. Some (operation_text o.0) };
+
+    fn fmt<W: fmt::Write>(&self, f: &mut fmt::Formatter<W>) -> fmt::Result {
+        let Passed { op, left, right } = self.0;
+        write!(f, "{left} {op} {right}")
+    }
+}
+
+/// An operation of the check passes 128 bits.
 pub(crate) fn range(alloc: Global, passed: &Passed) -> Result<Text, AllocError>
     ensures { IfOk result (λ t. t ≡ range_line passed.now) }
 {
-    let Passed { op, left, right } = *passed;
+    let operation = Operation(*passed);
     plain(
         alloc,
-        format!(in alloc; "RANGE PASSED CHECK: {left} {op} {right}\n")?.as_str(),
+        format!(in alloc; "RANGE PASSED CHECK: {operation}\n")?.as_str(),
+    )
+}
+
+/// An operation of a run passes 128 bits, in stage one behind so many pivots.
+pub(crate) fn step_range(alloc: Global, pivots: u64, passed: &Passed) -> Result<Text, AllocError>
+    ensures { IfOk result (λ t. t ≡ step_range_line pivots passed.now) }
+{
+    let operation = Operation(*passed);
+    plain(
+        alloc,
+        format!(in alloc; "RANGE PASSED STAGE 1 ITERATION {pivots}: {operation}\n")?.as_str(),
     )
 }

@@ -1,11 +1,13 @@
 //! `netflow check` reads a program on standard input and its data sets in the folder in which it was started, and
-//! accepts a certificate exactly where it proves that its flows are best.
+//! accepts a certificate exactly where it proves what it claims. `netflow run` obeys the statements of such a program on
+//! its data.
 #![tactic(auto)]
 
 mod check;
 mod lines;
 mod program;
 mod refusal;
+mod run;
 mod sets;
 mod status;
 mod top;

@@ -11,6 +11,7 @@ use nf_cert::CertFault;
 use nf_frac::Passed;
 use nf_io::Text;
 use nf_prob::Why;
+use nf_stmt::StmtFault;
 use nf_table::TableFault;
 use std::alloc::{AllocError, Global};
 
@@ -19,8 +20,10 @@ use std::alloc::{AllocError, Global};
 pub(crate) enum Refusal {
     /// The words are no command.
     Usage,
-    /// The source's text is too long, or is no program.
-    NoProgram,
+    /// The source's text is no program; this is its first fault.
+    NoProgram(StmtFault),
+    /// The text is a program that the command does not take yet.
+    NotStanding,
     /// The source or the library failed at a read.
     ReadFault,
     /// The library lacks the data set of this name.
@@ -53,7 +56,8 @@ impl Refusal {
     {
         match self {
             Refusal::Usage => lines::plain(alloc, lines::USAGE),
-            Refusal::NoProgram => lines::plain(alloc, "PROGRAM REFUSED AT 0: Form\n"),
+            Refusal::NoProgram(fault) => lines::no_program(alloc, fault),
+            Refusal::NotStanding => lines::plain(alloc, "PROGRAM REFUSED AT 0: Form\n"),
             Refusal::ReadFault => lines::plain(alloc, "READ FAULT\n"),
             Refusal::Absent(name) => lines::named(alloc, "ABSENT ", name),
             Refusal::TooLong(set) => lines::too_long(alloc, *set),
@@ -71,7 +75,7 @@ impl Refusal {
     {
         match self {
             Refusal::Usage => Status::Usage,
-            Refusal::NoProgram => Status::ProgramRefused,
+            Refusal::NoProgram(_) | Refusal::NotStanding => Status::ProgramRefused,
             Refusal::ReadFault => Status::ReadFault,
             Refusal::Absent(_) => Status::Absent,
             Refusal::TooLong(_) | Refusal::NoTable(..) | Refusal::NoNetwork(_) =>

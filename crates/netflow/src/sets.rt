@@ -1,16 +1,17 @@
 //! The data sets of a program: their bytes, and then their tables.
 ghost use Rattle.std.specs.Prelude.{true, ◌≡◌, ◌≤◌, ℕ, List, Some, MatchResult, IfOk, IfErr};
 ghost use Rattle.nf_io.specs.Held.{HasName};
-ghost use Rattle.netflow.specs.Data.{AreTables, AreTablesBefore, IsTable, Sets as SetBytes, bytes_of};
+ghost use Rattle.nf_program.specs.declared.program.Command.{Command as Commands};
+ghost use Rattle.netflow.specs.Data.{AreTables, AreTablesBefore, Fetches, IsTable, Sets as SetBytes, bytes_of};
 ghost use Rattle.netflow.specs.Lines.{set_word};
-ghost use Rattle.netflow.specs.Outcome.{AreHeld, AreHeldBefore, FetchesSets, Input, ReadsProgram, name_of};
-ghost use Rattle.netflow.specs.Program.{Program as Named};
-ghost use Rattle.netflow.specs.Pieces.{program_named};
-ghost use Rattle.netflow.specs.Steps.{SawFetches, Stops, grids_of, sets_of};
+ghost use Rattle.netflow.specs.Outcome.{AreHeld, AreHeldBefore, FetchesSets, Input, NamesSets, name_of};
+ghost use Rattle.netflow.specs.Standing.{SetNames as Named};
+ghost use Rattle.netflow.specs.Steps.{SawFetches, Stops, grids_of, names_of, sets_of};
 
-use crate::program::Program;
+use crate::program::SetNames;
 use crate::refusal::{Refusal, Stop};
 use nf_io::{FetchFault, Library, Text};
+use nf_stmt::Command;
 use nf_table::{Table, TableFault, read_table};
 use std::alloc::{AllocError, Global};
 use std::fmt;
@@ -73,9 +74,9 @@ fn fetch_set<L: Library>(
     ensures quiet { L.quiet_fetches library.new ≡ L.quiet_fetches library.old }
     ensures calm { L.quiet_fetches library.old ≡ true → L.fetch_faults library.new ≡ L.fetch_faults library.old }
     ensures ok { IfOk result (λ v. HasName (L.held library.old) name.now v.items) }
-    ensures stops { IfErr result (λ stop. (i : Input) (p : Named) →
+    ensures stops { IfErr result (λ stop. (i : Input) (c : Commands) (n : Named) →
         SawFetches i (L.held library.old) (L.fetch_faults library.old) (L.fetch_faults library.new) (L.misses library.old) (L.misses library.new) →
-        ReadsProgram i p → AreHeldBefore i.held p set → name.now ≡ name_of p set → Stops i stop) }
+        NamesSets i c n → Fetches c set → AreHeldBefore i.held n set → name.now ≡ name_of n set → Stops i stop) }
 {
     let mut bytes = Vec::new(alloc);
     match library.fetch(alloc, name, &mut bytes) {
@@ -90,13 +91,39 @@ fn fetch_set<L: Library>(
     }
 }
 
-/// The bytes of the data sets of a program, fetched in the order ARCDATA, NODEDATA, CERTDATA.
+// The bytes of CERTDATA, where the command fetches it, or none.
+fn fetch_certdata<L: Library>(
+    alloc: Global,
+    command: Command,
+    name: &str,
+    library: &mut L,
+) -> Result<Vec<u8>, Stop>
+    ensures held { L.held library.new ≡ L.held library.old }
+    ensures stores { L.store_faults library.new ≡ L.store_faults library.old }
+    ensures faults { L.fetch_faults library.old ≤ L.fetch_faults library.new }
+    ensures misses { (q : List ℕ) → L.misses library.old q ≤ L.misses library.new q }
+    ensures quiet { L.quiet_fetches library.new ≡ L.quiet_fetches library.old }
+    ensures calm { L.quiet_fetches library.old ≡ true → L.fetch_faults library.new ≡ L.fetch_faults library.old }
+    ensures ok { IfOk result (λ v. command ≡ Command.Check → HasName (L.held library.old) name.now v.items) }
+    ensures stops { IfErr result (λ stop. (i : Input) (n : Named) →
+        SawFetches i (L.held library.old) (L.fetch_faults library.old) (L.fetch_faults library.new) (L.misses library.old) (L.misses library.new) →
+        NamesSets i command n → AreHeldBefore i.held n SetName.Certdata → name.now ≡ n.certdata → Stops i stop) }
+{
+    match command {
+        Command::Check => fetch_set(alloc, SetName::Certdata, name, library),
+        Command::Run => Ok(Vec::new(alloc)),
+    }
+}
+
+/// The bytes of the data sets that a command fetches, in the order ARCDATA, NODEDATA, CERTDATA. `run` does not look at
+/// CERTDATA.
 ///
 /// It stops at the first fetch that is not answered by `Ok`: `ReadFault` where it failed, `Absent` where the library lacks
 /// the name, `TooLong` where it has too many bytes.
 pub(crate) fn fetch_sets<L: Library>(
     alloc: Global,
-    program: Program<'_>,
+    command: Command,
+    names: SetNames<'_>,
     library: &mut L,
 ) -> Result<Sets, Stop>
     ensures held { L.held library.new ≡ L.held library.old }
@@ -105,16 +132,16 @@ pub(crate) fn fetch_sets<L: Library>(
     ensures misses { (q : List ℕ) → L.misses library.old q ≤ L.misses library.new q }
     ensures quiet { L.quiet_fetches library.new ≡ L.quiet_fetches library.old }
     ensures calm { L.quiet_fetches library.old ≡ true → L.fetch_faults library.new ≡ L.fetch_faults library.old }
-    ensures ok { let p = program_named program.entry.arcdata.now program.entry.nodedata.now program.entry.certdata.now in
-        IfOk result (λ s. AreHeld (L.held library.old) p (sets_of s)) }
-    ensures stops { let p = program_named program.entry.arcdata.now program.entry.nodedata.now program.entry.certdata.now in
+    ensures ok { let n = names_of names.entry.arcdata.now names.entry.nodedata.now names.entry.certdata.now in
+        IfOk result (λ s. AreHeld command (L.held library.old) n (sets_of s)) }
+    ensures stops { let n = names_of names.entry.arcdata.now names.entry.nodedata.now names.entry.certdata.now in
         IfErr result (λ stop. (i : Input) →
         SawFetches i (L.held library.old) (L.fetch_faults library.old) (L.fetch_faults library.new) (L.misses library.old) (L.misses library.new) →
-        ReadsProgram i p → Stops i stop) }
+        NamesSets i command n → Stops i stop) }
 {
-    let arcdata = fetch_set(alloc, SetName::Arcdata, program.arcdata, library)?;
-    let nodedata = fetch_set(alloc, SetName::Nodedata, program.nodedata, library)?;
-    let certdata = fetch_set(alloc, SetName::Certdata, program.certdata, library)?;
+    let arcdata = fetch_set(alloc, SetName::Arcdata, names.arcdata, library)?;
+    let nodedata = fetch_set(alloc, SetName::Nodedata, names.nodedata, library)?;
+    let certdata = fetch_certdata(alloc, command, names.certdata, library)?;
     Ok(Sets {
         arcdata,
         nodedata,
@@ -125,8 +152,8 @@ pub(crate) fn fetch_sets<L: Library>(
 // The table of a data set, whose bytes are let go.
 fn read_set(alloc: Global, set: SetName, bytes: Vec<u8>) -> Result<Table, Stop>
     ensures ok { IfOk result (IsTable bytes.items) }
-    ensures stops { IfErr result (λ stop. (i : Input) (s : SetBytes) →
-        FetchesSets i s → AreTablesBefore s set → bytes.items ≡ bytes_of s set → Stops i stop) }
+    ensures stops { IfErr result (λ stop. (i : Input) (c : Commands) (s : SetBytes) →
+        Fetches c set → FetchesSets i c s → AreTablesBefore s set → bytes.items ≡ bytes_of s set → Stops i stop) }
 {
     match read_table(alloc, &bytes) {
         Ok(table) => Ok(table),
@@ -135,11 +162,11 @@ fn read_set(alloc: Global, set: SetName, bytes: Vec<u8>) -> Result<Table, Stop>
     }
 }
 
-/// The tables of the data sets, read in the order ARCDATA, NODEDATA, CERTDATA. The bytes of each are let go once it is
-/// read. It stops with `NoTable` at the first that is no table.
+/// The tables of the data sets of a check, read in the order ARCDATA, NODEDATA, CERTDATA. The bytes of each are let go
+/// once it is read. It stops with `NoTable` at the first that is no table.
 pub(crate) fn read_tables(alloc: Global, sets: Sets) -> Result<Tables, Stop>
-    ensures ok { IfOk result (λ t. AreTables (sets_of sets) (grids_of t)) }
-    ensures stops { IfErr result (λ stop. (i : Input) → FetchesSets i (sets_of sets) → Stops i stop) }
+    ensures ok { IfOk result (λ t. AreTables Command.Check (sets_of sets) (grids_of t)) }
+    ensures stops { IfErr result (λ stop. (i : Input) → FetchesSets i Command.Check (sets_of sets) → Stops i stop) }
 {
     let Sets {
         arcdata,
@@ -154,4 +181,20 @@ pub(crate) fn read_tables(alloc: Global, sets: Sets) -> Result<Tables, Stop>
         nodedata,
         certdata,
     })
+}
+
+/// The tables of ARCDATA and NODEDATA of a run, read in this order. It stops with `NoTable` at the first that is no table.
+pub(crate) fn read_network(alloc: Global, sets: Sets) -> Result<(Table, Table), Stop>
+    ensures arcs { IfOk result (λ t. IsTable (sets_of sets).arcdata t.0) }
+    ensures nodes { IfOk result (λ t. IsTable (sets_of sets).nodedata t.1) }
+    ensures stops { IfErr result (λ stop. (i : Input) → FetchesSets i Command.Run (sets_of sets) → Stops i stop) }
+{
+    let Sets {
+        arcdata,
+        nodedata,
+        certdata: _,
+    } = sets;
+    let arcdata = read_set(alloc, SetName::Arcdata, arcdata)?;
+    let nodedata = read_set(alloc, SetName::Nodedata, nodedata)?;
+    Ok((arcdata, nodedata))
 }

@@ -168,9 +168,11 @@ fn refuses_bytes_that_are_no_text(rt: HostRuntime) -> Result<(), Fail> {
 fn tells_what_stops_it(rt: HostRuntime) -> Result<(), Fail> {
     let usage = "USAGE netflow run | netflow check | netflow sample SEED NODES ARCS CONS\n";
     let form = "PROGRAM REFUSED AT 0: Form\n";
+    let accepted = "ACCEPTED OPTIMAL\nTOTAL COST 10\n";
     let other = "proc netflow arcdata=arcs nodedata=n_2 certdata=k;\n";
     let cases = [
-        ("run", PROGRAM, [0, 0, 0], Status::Usage, usage),
+        ("again", PROGRAM, [0, 0, 0], Status::Usage, usage),
+        ("run", PROGRAM, [0, 0, 0], Status::Finished, ""),
         ("Check", PROGRAM, [0, 0, 0], Status::Usage, usage),
         ("", PROGRAM, [0, 0, 0], Status::Usage, usage),
         (
@@ -210,13 +212,61 @@ fn tells_what_stops_it(rt: HostRuntime) -> Result<(), Fail> {
         ),
         ("check", PROGRAM, [0, 0, 1], Status::WriteFault, ""),
         ("check", other, [0, 3, 0], Status::Absent, "ABSENT n_2\n"),
-        ("check", "", [0, 0, 0], Status::ProgramRefused, form),
+        (
+            "check",
+            "",
+            [0, 0, 0],
+            Status::ProgramRefused,
+            "PROGRAM REFUSED AT 0: NoProc\n",
+        ),
+        (
+            "check",
+            "proc netflow arcdata=arcs foo=1;",
+            [0, 0, 0],
+            Status::ProgramRefused,
+            "PROGRAM REFUSED AT 26: UnknownWord\n",
+        ),
         (
             "check",
             "proc netflow arcdata=arcs nodedata=nodes certdata=k; run;",
             [0, 0, 0],
             Status::ProgramRefused,
+            "PROGRAM REFUSED AT 53: StatementOrder\n",
+        ),
+        (
+            "check",
+            "proc netflow arcdata=arcs certdata=k;",
+            [0, 0, 0],
+            Status::ProgramRefused,
             form,
+        ),
+        (
+            "check",
+            "proc netflow arcdata=arcs nodedata=nodes certdata=k thrunet;",
+            [0, 0, 0],
+            Status::ProgramRefused,
+            form,
+        ),
+        (
+            "check",
+            "proc netflow arcdata=arcs nodedata=nodes certdata=k; cost c;",
+            [0, 0, 0],
+            Status::ProgramRefused,
+            form,
+        ),
+        (
+            "check",
+            "PROC NetFlow CertData = K nodedata=Nodes arcdata=arcs /* all */ warm conin=a dualin=b sessiondata=c; quit",
+            [0, 0, 0],
+            Status::ProgramRefused,
+            "PROGRAM REFUSED AT 105: MissingSemicolon\n",
+        ),
+        (
+            "check",
+            "PROC NetFlow CertData = K nodedata=Nodes arcdata=arcs /* all */ warm conin=a dualin=b sessiondata=c; quit;",
+            [0, 0, 0],
+            Status::Finished,
+            accepted,
         ),
     ];
     let sets = [ARCS.as_bytes(), NODES.as_bytes(), CERT.as_bytes()];
@@ -251,5 +301,70 @@ fn tells_numbers_that_pass(rt: HostRuntime) -> Result<(), Fail> {
 fn tells_a_dual_that_does_not_fit(rt: HostRuntime) -> Result<(), Fail> {
     let line = Refusal::NotValid(Why::Dual(2)).line(rt.alloc())?;
     assert_eq!(rt; line.bytes(), b"REFUSED DUAL 2\n".as_slice());
+    Ok(())
+}
+
+// What `run` lists of a network: the data, the acts, and the listing.
+#[test]
+fn lists_a_run(rt: HostRuntime) -> Result<(), Fail> {
+    let none = "_NODE_,_SUPDEM_\n";
+    let cycle = "_FROM_,_TO_,_COST_,_CAPAC_\na,b,-1,1\nb,c,-1,1\nc,a,-1,1\n";
+    let endless = "_FROM_,_TO_,_COST_,_CAPAC_\na,b,-1,INF\nb,a,0,INF\n";
+    let narrow = "_FROM_,_TO_,_COST_,_CAPAC_\na,b,2,3\n";
+    let path = "_FROM_,_TO_,_COST_,_CAPAC_\na,b,1,INF\nb,c,1,INF\n";
+    let ends = "_NODE_,_SUPDEM_\na,4\nc,-4\n";
+    let cases = [
+        (
+            ARCS,
+            NODES,
+            "",
+            "run;",
+            "OPTIMAL\nTOTAL COST 10\nSTAGE 1 PIVOTS 1\nSTAGE 2 PIVOTS 0\n",
+        ),
+        (
+            cycle,
+            none,
+            "",
+            "run;",
+            "OPTIMAL\nTOTAL COST -3\nSTAGE 1 PIVOTS 3\nSTAGE 2 PIVOTS 0\n",
+        ),
+        (
+            endless,
+            none,
+            "",
+            "run;",
+            "UNBOUNDED\nRATE -1\nSTAGE 1 PIVOTS 1\nSTAGE 2 PIVOTS 0\n",
+        ),
+        (
+            narrow,
+            NODES,
+            "",
+            "run; quit;",
+            "INFEASIBLE\nGAP 4\nSTAGE 1 PIVOTS 1\nSTAGE 2 PIVOTS 0\n",
+        ),
+        (
+            ARCS,
+            NODES,
+            "maxit1=0",
+            "run;",
+            "HALTED MAXIT1 0\nSTAGE 1 PIVOTS 0\nSTAGE 2 PIVOTS 0\n",
+        ),
+        (
+            path,
+            ends,
+            "maxit1=1 pricetype1=bland",
+            "run; run;",
+            "HALTED MAXIT1 1\nSTAGE 1 PIVOTS 1\nSTAGE 2 PIVOTS 0\nHALTED MAXIT1 1\nSTAGE 1 PIVOTS 1\nSTAGE 2 PIVOTS 0\n",
+        ),
+    ];
+    for (arcs, nodes, options, acts, listing) in cases {
+        let program = format!(in rt.alloc();
+            "proc netflow arcdata=arcs nodedata=nodes {options}; {acts}"
+        )?;
+        let sets = [arcs.as_bytes(), nodes.as_bytes(), b""];
+        let (answer, listed) = call(rt.alloc(), &["run"], program.as_str(), sets, [0, 0, 0])?;
+        assert_eq!(rt; answer, Status::Finished, "{program}");
+        assert_eq!(rt; listed.bytes(), listing.as_bytes());
+    }
     Ok(())
 }

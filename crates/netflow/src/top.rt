@@ -2,60 +2,91 @@
 ghost use Rattle.std.specs.Prelude.{true, ◌≡◌, ◌≤◌, ℕ, List, IfOk, IfErr, MatchResult, map};
 ghost use Rattle.std.specs.Io.KnownBytes.{Consumes, IsAtEnd};
 ghost use Rattle.std.specs.String.{string_bytes};
-ghost use Rattle.netflow.specs.Headline.{AcceptsTheValid, PlanIsProved};
-ghost use Rattle.netflow.specs.Outcome.{Accepts, Call, Comes, Input, IsDue, Lists};
-ghost use Rattle.netflow.specs.Steps.{SawSource, Stops};
-ghost use Rattle.netflow.specs.Words.{IsCheck};
+ghost use Rattle.nf_program.specs.declared.program.Command.{Command as Commands};
+ghost use Rattle.nf_program.specs.declared.program.Command.TheVariants.{Check, Run};
+ghost use Rattle.nf_program.specs.Grammar.{HasProgram};
+ghost use Rattle.netflow.specs.Data.{IsProblemOf, Sets as SetBytes};
+ghost use Rattle.netflow.specs.Headline.{AcceptsTheValid, ClaimIsProved, RefusesNoProgram, RunIsExplained};
+ghost use Rattle.netflow.specs.Outcome.{Accepts, AreHeld, Call, Comes, Input, IsDue, Lists, NamesSets, ReadsProgram, RunsOn};
+ghost use Rattle.netflow.specs.Steps.{SawFetches, SawSource, Stops, names_of};
+ghost use Rattle.netflow.specs.Words.{IsCommand};
 
-use crate::check::judge;
+use crate::check::{judge, pose};
 use crate::lines;
-use crate::program::read_program;
+use crate::program::{SetNames, names_for_check, names_for_run, program_of};
 use crate::refusal::{Refusal, Stop};
-use crate::sets::{fetch_sets, read_tables};
+use crate::run::run;
+use crate::sets::{fetch_sets, read_network, read_tables};
 use crate::status::Status;
-use crate::words::is_check;
-use nf_frac::Frac;
+use crate::words::command_of;
 use nf_io::{Library, PutFault, ReadAllFault, Sink, Source, Text, read_all, write_all};
+use nf_prob::Problem;
+use nf_run::HaltLine;
+use nf_stmt::{Command, Program, StmtFault, StmtKind};
 use std::alloc::{AllocError, Global};
 
 /// The most bytes of a program's text.
 const MOST_PROGRAM: usize = 1_048_576;
 
-// The text of the source.
+/// The fault of a text of more bytes.
+const TOO_LONG: StmtFault = StmtFault {
+    at: 1_048_576,
+    kind: StmtKind::TooLong,
+};
+
+// The text of the source, for a command.
 fn source_text<S: Source>(alloc: Global, program: &mut S) -> Result<Text, Stop>
     ensures faults { S.faults program.old ≤ S.faults program.new }
     ensures quiet { S.quiet program.new ≡ S.quiet program.old }
     ensures calm { S.quiet program.old ≡ true → S.faults program.new ≡ S.faults program.old }
     ensures taken { IfOk result (λ t. Consumes (S.left program.old) (S.left program.new) t) }
     ensures ended { IfOk result (λ _. IsAtEnd (S.left program.new)) }
-    ensures stops { IfErr result (λ stop. (i : Input) →
-        SawSource i (S.left program.old) (S.left program.new) (S.faults program.old) (S.faults program.new) → IsCheck i.words → Stops i stop) }
+    ensures stops { IfErr result (λ stop. (i : Input) (c : Commands) →
+        SawSource i (S.left program.old) (S.left program.new) (S.faults program.old) (S.faults program.new) → IsCommand c i.words → Stops i stop) }
 {
     match read_all(alloc, program, MOST_PROGRAM) {
         Ok(text) => Ok(text),
         Err(ReadAllFault::Failed) => Err(Stop::Refused(Refusal::ReadFault)),
-        Err(ReadAllFault::TooLong) => Err(Stop::Refused(Refusal::NoProgram)),
+        Err(ReadAllFault::TooLong) => Err(Stop::Refused(Refusal::NoProgram(TOO_LONG))),
         Err(ReadAllFault::NoMemory) => Err(Stop::NoMemory),
     }
 }
 
-// What the call answers: the cost of flows that are accepted, or why it stops.
-fn answer<S: Source, L: Library>(
+// The program of the source, for a command.
+fn source_program<S: Source>(
+    alloc: Global,
+    command: Command,
+    source: &mut S,
+) -> Result<Program, Stop>
+    ensures calm { S.quiet source.old ≡ true → S.faults source.new ≡ S.faults source.old }
+    ensures read { IfOk result (λ p. (text : List ℕ) × HasProgram command text p) }
+    ensures reads { IfOk result (λ p. (i : Input) →
+        SawSource i (S.left source.old) (S.left source.new) (S.faults source.old) (S.faults source.new) → IsCommand command i.words → ReadsProgram i command p) }
+    ensures stops { IfErr result (λ stop. (i : Input) →
+        SawSource i (S.left source.old) (S.left source.new) (S.faults source.old) (S.faults source.new) → IsCommand command i.words → Stops i stop) }
+{
+    let text = source_text(alloc, source)?;
+    program_of(alloc, text.bytes(), command)
+}
+
+// What a check answers: what the certificate that is accepted claims, or why it stops.
+fn check_answer<S: Source, L: Library>(
     alloc: Global,
     words: &[String],
-    program: &mut S,
+    source: &mut S,
     library: &mut L,
-) -> Result<Frac, Stop>
+) -> Result<HaltLine, Stop>
+    requires command { IsCommand Check (map string_bytes words.now) }
     ensures held { L.held library.new ≡ L.held library.old }
     ensures stores { L.store_faults library.new ≡ L.store_faults library.old }
-    ensures source_calm { S.quiet program.old ≡ true → S.faults program.new ≡ S.faults program.old }
+    ensures source_calm { S.quiet source.old ≡ true → S.faults source.new ≡ S.faults source.old }
     ensures library_calm { L.quiet_fetches library.old ≡ true → L.fetch_faults library.new ≡ L.fetch_faults library.old }
     ensures answer { let input : Input = record {
       words = map string_bytes words.now;
-      left = S.left program.old;
-      rest = S.left program.new;
-      source_faults = S.faults program.old;
-      source_faults_after = S.faults program.new;
+      left = S.left source.old;
+      rest = S.left source.new;
+      source_faults = S.faults source.old;
+      source_faults_after = S.faults source.new;
       held = L.held library.old;
       fetch_faults = L.fetch_faults library.old;
       fetch_faults_after = L.fetch_faults library.new;
@@ -64,16 +95,75 @@ fn answer<S: Source, L: Library>(
     } in
         MatchResult result (Accepts input) (Stops input) }
 {
-    if !is_check(words) {
-        return Err(Stop::Refused(Refusal::Usage));
-    }
-    let text = source_text(alloc, program)?;
-    let Some(named) = read_program(text.bytes()) else {
-        return Err(Stop::Refused(Refusal::NoProgram));
+    let program = source_program(alloc, Command::Check, source)?;
+    let Some(names) = names_for_check(&program) else {
+        return Err(Stop::Refused(Refusal::NotStanding));
     };
-    let sets = fetch_sets(alloc, named, library)?;
+    let sets = fetch_sets(alloc, Command::Check, names, library)?;
     let tables = read_tables(alloc, sets)?;
     judge(alloc, tables)
+}
+
+// A program and the problem that it is run on.
+#[derive(Drop)]
+struct Loaded {
+    program: Program,
+    problem: Problem,
+}
+
+// The problem of the data sets that a program of `run` names.
+fn load_problem<L: Library>(
+    alloc: Global,
+    names: SetNames<'_>,
+    library: &mut L,
+) -> Result<Problem, Stop>
+    ensures held { L.held library.new ≡ L.held library.old }
+    ensures stores { L.store_faults library.new ≡ L.store_faults library.old }
+    ensures library_calm { L.quiet_fetches library.old ≡ true → L.fetch_faults library.new ≡ L.fetch_faults library.old }
+    ensures posed { let n = names_of names.entry.arcdata.now names.entry.nodedata.now names.entry.certdata.now in
+        IfOk result (λ p. (s : SetBytes) × AreHeld Run (L.held library.old) n s × IsProblemOf s.arcdata s.nodedata p) }
+    ensures stops { let n = names_of names.entry.arcdata.now names.entry.nodedata.now names.entry.certdata.now in
+        IfErr result (λ stop. (i : Input) →
+        SawFetches i (L.held library.old) (L.fetch_faults library.old) (L.fetch_faults library.new) (L.misses library.old) (L.misses library.new) →
+        NamesSets i Run n → Stops i stop) }
+{
+    let sets = fetch_sets(alloc, Command::Run, names, library)?;
+    let (arcs, nodes) = read_network(alloc, sets)?;
+    pose(alloc, arcs, nodes)
+}
+
+// What a run is of, or why it stops before the first statement.
+fn run_input<S: Source, L: Library>(
+    alloc: Global,
+    words: &[String],
+    source: &mut S,
+    library: &mut L,
+) -> Result<Loaded, Stop>
+    requires command { IsCommand Run (map string_bytes words.now) }
+    ensures held { L.held library.new ≡ L.held library.old }
+    ensures stores { L.store_faults library.new ≡ L.store_faults library.old }
+    ensures source_calm { S.quiet source.old ≡ true → S.faults source.new ≡ S.faults source.old }
+    ensures library_calm { L.quiet_fetches library.old ≡ true → L.fetch_faults library.new ≡ L.fetch_faults library.old }
+    ensures input { let input : Input = record {
+      words = map string_bytes words.now;
+      left = S.left source.old;
+      rest = S.left source.new;
+      source_faults = S.faults source.old;
+      source_faults_after = S.faults source.new;
+      held = L.held library.old;
+      fetch_faults = L.fetch_faults library.old;
+      fetch_faults_after = L.fetch_faults library.new;
+      misses = L.misses library.old;
+      misses_after = L.misses library.new;
+    } in
+        MatchResult result (λ l. RunsOn input l.program l.problem) (Stops input) }
+{
+    let program = source_program(alloc, Command::Run, source)?;
+    let Some(names) = names_for_run(&program) else {
+        return Err(Stop::Refused(Refusal::NotStanding));
+    };
+    let problem = load_problem(alloc, names, library)?;
+    Ok(Loaded { program, problem })
 }
 
 // Writes the last line of the listing, and answers the status that it tells.
@@ -99,14 +189,101 @@ fn conclude<K: Sink>(listing: &mut K, line: Result<Text, AllocError>, status: St
     }
 }
 
-/// Does what the words say, and answers how it ended. Today the words are `check` alone.
+// Does what `check` says.
+fn check_words<S: Source, L: Library, K: Sink>(
+    alloc: Global,
+    words: &[String],
+    program: &mut S,
+    library: &mut L,
+    listing: &mut K,
+) -> Status
+    requires command { IsCommand Check (map string_bytes words.now) }
+    ensures held { L.held library.new ≡ L.held library.old }
+    ensures stores { L.store_faults library.new ≡ L.store_faults library.old }
+    ensures source_calm { S.quiet program.old ≡ true → S.faults program.new ≡ S.faults program.old }
+    ensures library_calm { L.quiet_fetches library.old ≡ true → L.fetch_faults library.new ≡ L.fetch_faults library.old }
+    ensures listing_calm { K.quiet listing.old ≡ true → K.faults listing.new ≡ K.faults listing.old }
+    ensures comes { let call : Call = record {
+      input = record {
+        words = map string_bytes words.now;
+        left = S.left program.old;
+        rest = S.left program.new;
+        source_faults = S.faults program.old;
+        source_faults_after = S.faults program.new;
+        held = L.held library.old;
+        fetch_faults = L.fetch_faults library.old;
+        fetch_faults_after = L.fetch_faults library.new;
+        misses = L.misses library.old;
+        misses_after = L.misses library.new;
+      };
+      written = K.written listing.old;
+      put = K.written listing.new;
+      sink_faults = K.faults listing.old;
+      sink_faults_after = K.faults listing.new;
+    } in
+        Comes call result }
+{
+    match check_answer(alloc, words, program, library) {
+        Ok(line) => conclude(listing, lines::accepted(alloc, line), Status::Finished),
+        Err(Stop::Refused(refusal)) => { conclude(listing, refusal.line(alloc), refusal.status()) }
+        Err(Stop::NoMemory) => Status::NoMemory,
+    }
+}
+
+// Does what `run` says.
+fn run_words<S: Source, L: Library, K: Sink>(
+    alloc: Global,
+    words: &[String],
+    program: &mut S,
+    library: &mut L,
+    listing: &mut K,
+) -> Status
+    requires command { IsCommand Run (map string_bytes words.now) }
+    ensures held { L.held library.new ≡ L.held library.old }
+    ensures stores { L.store_faults library.new ≡ L.store_faults library.old }
+    ensures source_calm { S.quiet program.old ≡ true → S.faults program.new ≡ S.faults program.old }
+    ensures library_calm { L.quiet_fetches library.old ≡ true → L.fetch_faults library.new ≡ L.fetch_faults library.old }
+    ensures listing_calm { K.quiet listing.old ≡ true → K.faults listing.new ≡ K.faults listing.old }
+    ensures comes { let call : Call = record {
+      input = record {
+        words = map string_bytes words.now;
+        left = S.left program.old;
+        rest = S.left program.new;
+        source_faults = S.faults program.old;
+        source_faults_after = S.faults program.new;
+        held = L.held library.old;
+        fetch_faults = L.fetch_faults library.old;
+        fetch_faults_after = L.fetch_faults library.new;
+        misses = L.misses library.old;
+        misses_after = L.misses library.new;
+      };
+      written = K.written listing.old;
+      put = K.written listing.new;
+      sink_faults = K.faults listing.old;
+      sink_faults_after = K.faults listing.new;
+    } in
+        Comes call result }
+{
+    match run_input(alloc, words, program, library) {
+        Ok(loaded) => run(alloc, &loaded.problem, &loaded.program, listing),
+        Err(Stop::Refused(refusal)) => { conclude(listing, refusal.line(alloc), refusal.status()) }
+        Err(Stop::NoMemory) => Status::NoMemory,
+    }
+}
+
+/// Does what the words say, and answers how it ended. Today the words are `check` or `run`.
 ///
 /// `check` reads a program from the source, fetches its three data sets from the library, and accepts the certificate
-/// of CERTDATA exactly where it is valid for the problem of ARCDATA and NODEDATA; the listing then has `ACCEPTED OPTIMAL`
-/// and the cost of the flows. Else the listing has the line of one refusal, the first in this order: the words; the
-/// source; the program's text; the fetches; the tables; the form of the network; the table of the certificate; its
-/// validity, or a number that passes 128 bits. What is written is always the front of that listing: `WriteFault` comes
-/// where a put failed in it, and `NoMemory` where memory ran out, there or before. The library is left as it was.
+/// of CERTDATA exactly where it is valid for the problem of ARCDATA and NODEDATA; the listing then has `ACCEPTED` with
+/// what the certificate claims. `run` reads a program, fetches ARCDATA and NODEDATA, and obeys its statements on their
+/// problem; the listing has the lines of each RUN, statement by statement, and behind them that of an operation that
+/// passes 128 bits.
+///
+/// Else the listing has the line of one refusal, the first in this order: the words; the source; the program's text;
+/// what the command takes of the language; the fetches; the tables; the form of the network; and for `check` the table
+/// of the certificate; its validity, or a number that passes 128 bits. What is written is always the front of that
+/// listing: `WriteFault` comes where a put failed in it, and `NoMemory` where memory ran out, there or before. The
+/// library is left as it was.
 pub fn netflow<S: Source, L: Library, K: Sink>(
     alloc: Global,
     words: &[String],
@@ -151,7 +328,26 @@ pub fn netflow<S: Source, L: Library, K: Sink>(
       sink_faults = K.faults listing.old;
       sink_faults_after = K.faults listing.new;
     } in
-        result ≡ Status.Finished → PlanIsProved call }
+        result ≡ Status.Finished → IsCommand Check call.input.words → ClaimIsProved call }
+    ensures planned { let call : Call = record {
+      input = record {
+        words = map string_bytes words.now;
+        left = S.left program.old;
+        rest = S.left program.new;
+        source_faults = S.faults program.old;
+        source_faults_after = S.faults program.new;
+        held = L.held library.old;
+        fetch_faults = L.fetch_faults library.old;
+        fetch_faults_after = L.fetch_faults library.new;
+        misses = L.misses library.old;
+        misses_after = L.misses library.new;
+      };
+      written = K.written listing.old;
+      put = K.written listing.new;
+      sink_faults = K.faults listing.old;
+      sink_faults_after = K.faults listing.new;
+    } in
+        result ≡ Status.Finished → IsCommand Run call.input.words → RunIsExplained call }
     ensures complete { let call : Call = record {
       input = record {
         words = map string_bytes words.now;
@@ -171,15 +367,34 @@ pub fn netflow<S: Source, L: Library, K: Sink>(
       sink_faults_after = K.faults listing.new;
     } in
         AcceptsTheValid call result }
+    ensures refused { let call : Call = record {
+      input = record {
+        words = map string_bytes words.now;
+        left = S.left program.old;
+        rest = S.left program.new;
+        source_faults = S.faults program.old;
+        source_faults_after = S.faults program.new;
+        held = L.held library.old;
+        fetch_faults = L.fetch_faults library.old;
+        fetch_faults_after = L.fetch_faults library.new;
+        misses = L.misses library.old;
+        misses_after = L.misses library.new;
+      };
+      written = K.written listing.old;
+      put = K.written listing.new;
+      sink_faults = K.faults listing.old;
+      sink_faults_after = K.faults listing.new;
+    } in
+        RefusesNoProgram call result }
     ensures held { L.held library.new ≡ L.held library.old }
     ensures stores { L.store_faults library.new ≡ L.store_faults library.old }
     ensures source_calm { S.quiet program.old ≡ true → S.faults program.new ≡ S.faults program.old }
     ensures library_calm { L.quiet_fetches library.old ≡ true → L.fetch_faults library.new ≡ L.fetch_faults library.old }
     ensures listing_calm { K.quiet listing.old ≡ true → K.faults listing.new ≡ K.faults listing.old }
 {
-    match answer(alloc, words, program, library) {
-        Ok(cost) => conclude(listing, lines::accepted(alloc, cost), Status::Finished),
-        Err(Stop::Refused(refusal)) => { conclude(listing, refusal.line(alloc), refusal.status()) }
-        Err(Stop::NoMemory) => Status::NoMemory,
+    match command_of(words) {
+        Some(Command::Check) => check_words(alloc, words, program, library, listing),
+        Some(Command::Run) => run_words(alloc, words, program, library, listing),
+        None => conclude(listing, Refusal::Usage.line(alloc), Status::Usage),
     }
 }

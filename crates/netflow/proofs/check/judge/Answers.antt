@@ -1,12 +1,14 @@
 use Rattle.std.proofs.Common.{refl}
 use Rattle.std.proofs.lemmas.Result.{err_from_is_err_and}
+use Rattle.nf_program.specs.declared.program.Command.TheVariants.{Check}
 use Rattle.netflow.specs.Steps.{grids_of}
+use Rattle.netflow.proofs.StopFacts.{reads-of}
 use Rattle.netflow.proofs.check.judge.Goals as goal
 
 pub returns-in_err-problem-clause-stops : goal.returns-in_err-problem-clause-stops
 returns-in_err-problem-clause-stops c =
     let p = err_from_is_err_and c.from_residual.result c.from_residual.ensures.1 in
-    rw (p.1, p.2) (λ i s fetched tables. c.in_err-problem.ensures.stops i s (grids_of c.args.tables) fetched tables refl refl)
+    rw (p.1, p.2) (λ i s fetched tables. c.in_err-problem.ensures.stops i Check s (grids_of c.args.tables) fetched tables refl refl)
 
 pub returns-in_err-certificate-clause-stops : goal.returns-in_err-certificate-clause-stops
 returns-in_err-certificate-clause-stops c =
@@ -20,4 +22,20 @@ returns-in_err-certificate-clause-stops c =
         nodes_read = tables.nodedata;
         posed = c.in_ok-problem.ensures.ok;
       };
-    }) tables.certdata)
+    }) (tables.certdata refl))
+
+pub returns-in_err-number-clause-stops : goal.returns-in_err-number-clause-stops
+returns-in_err-number-clause-stops c =
+    let p = err_from_is_err_and c.from_residual-in_err-number.result c.from_residual-in_err-number.ensures.1 in
+    rw (p.1, p.2) (λ i s fetched tables. c.in_err-number.ensures.stops i
+    (reads-of i s (grids_of c.args.tables) c.in_ok-problem.problem c.in_ok-certificate.certificate fetched tables c.in_ok-problem.ensures.ok c.in_ok-certificate.ensures.ok))
+
+pub returns-clause-ok : goal.returns-clause-ok
+returns-clause-ok c = λ i s fetched tables. record {
+  problem = c.in_ok-problem.problem;
+  certificate = c.in_ok-certificate.certificate;
+  reads = reads-of i s (grids_of c.args.tables) c.in_ok-problem.problem c.in_ok-certificate.certificate fetched tables c.in_ok-problem.ensures.ok c.in_ok-certificate.ensures.ok;
+  number = c.in_ok-number.number;
+  valid = c.in_ok-number.ensures.ok;
+  told = c.claim_line.ensures;
+}

@@ -1,26 +1,47 @@
 use Rattle.std.proofs.Common.{inl, inr, refl}
-use Rattle.netflow.proofs.CompleteFacts.{accepts-valid, plan-proved}
+use Rattle.nf_program.specs.declared.program.Command.TheVariants.{Check, Run}
+use Rattle.netflow.specs.declared.refusal.Refusal.TheVariants as refusal
+use Rattle.netflow.proofs.CompleteFacts.{accepts-valid, claim-proved}
+use Rattle.netflow.proofs.RefusedFacts.{refuses-none}
+use Rattle.netflow.proofs.RunFacts.{run-explained}
 use Rattle.netflow.proofs.StopFacts.{refused-comes}
 use Rattle.netflow.proofs.top.netflow.Goals as goal
 
-pub returns-in-Ok-clause-comes : goal.returns-in-Ok-clause-comes
-returns-in-Ok-clause-comes g c =
-    c.conclude.ensures.comes _ _ c.accepted.ensures (inl (c.in-Ok.cost, c.in-Ok.ensures.answer, refl)) (λ l. (c.in-Ok.cost, c.in-Ok.ensures.answer, l))
+pub returns-in-Some-Check-clause-accepted : goal.returns-in-Some-Check-clause-accepted
+returns-in-Some-Check-clause-accepted g c = λ e words. claim-proved _ words (rw e at c.check_words.ensures.comes)
 
-pub returns-in-Ok-clause-accepted : goal.returns-in-Ok-clause-accepted
-returns-in-Ok-clause-accepted g c = λ e. plan-proved _ (rw e at (returns-in-Ok-clause-comes g c))
+pub returns-in-Some-Check-clause-planned : goal.returns-in-Some-Check-clause-planned
+returns-in-Some-Check-clause-planned g c = λ e words. run-explained _ words (rw e at c.check_words.ensures.comes)
 
-pub returns-in-Ok-clause-complete : goal.returns-in-Ok-clause-complete
-returns-in-Ok-clause-complete g c = accepts-valid _ _ (returns-in-Ok-clause-comes g c)
+pub returns-in-Some-Check-clause-complete : goal.returns-in-Some-Check-clause-complete
+returns-in-Some-Check-clause-complete g c = accepts-valid _ _ c.check_words.ensures.comes
 
-pub returns-in-Err-Refused-clause-comes : goal.returns-in-Err-Refused-clause-comes
-returns-in-Err-Refused-clause-comes g c =
-    let refused = rw c.in-Err-Refused.field-0-is at c.in-Err-Refused.ensures.answer in
-    c.conclude-in-Err-Refused.ensures.comes _ _ c.line.ensures (inr (c.in-Err-Refused.refusal, refused, refl))
-    (λ l. rw c.status.ensures (refused-comes _ c.in-Err-Refused.refusal refused l))
+pub returns-in-Some-Check-clause-refused : goal.returns-in-Some-Check-clause-refused
+returns-in-Some-Check-clause-refused g c = refuses-none _ _ c.check_words.ensures.comes
 
-pub returns-in-Err-Refused-clause-accepted : goal.returns-in-Err-Refused-clause-accepted
-returns-in-Err-Refused-clause-accepted g c = λ e. plan-proved _ (rw e at (returns-in-Err-Refused-clause-comes g c))
+pub returns-in-Some-Run-clause-accepted : goal.returns-in-Some-Run-clause-accepted
+returns-in-Some-Run-clause-accepted g c = λ e words. claim-proved _ words (rw e at c.run_words.ensures.comes)
 
-pub returns-in-Err-Refused-clause-complete : goal.returns-in-Err-Refused-clause-complete
-returns-in-Err-Refused-clause-complete g c = accepts-valid _ _ (returns-in-Err-Refused-clause-comes g c)
+pub returns-in-Some-Run-clause-planned : goal.returns-in-Some-Run-clause-planned
+returns-in-Some-Run-clause-planned g c = λ e words. run-explained _ words (rw e at c.run_words.ensures.comes)
+
+pub returns-in-Some-Run-clause-complete : goal.returns-in-Some-Run-clause-complete
+returns-in-Some-Run-clause-complete g c = accepts-valid _ _ c.run_words.ensures.comes
+
+pub returns-in-Some-Run-clause-refused : goal.returns-in-Some-Run-clause-refused
+returns-in-Some-Run-clause-refused g c = refuses-none _ _ c.run_words.ensures.comes
+
+pub returns-in-None-clause-comes : goal.returns-in-None-clause-comes
+returns-in-None-clause-comes g c = c.conclude.ensures.comes _ _ c.line.ensures (inr (inl (refusal.Usage, c.in-None.ensures, refl))) (λ l. (c.in-None.ensures, l))
+
+pub returns-in-None-clause-accepted : goal.returns-in-None-clause-accepted
+returns-in-None-clause-accepted g c = λ e words. claim-proved _ words (rw e at (returns-in-None-clause-comes g c))
+
+pub returns-in-None-clause-planned : goal.returns-in-None-clause-planned
+returns-in-None-clause-planned g c = λ e words. run-explained _ words (rw e at (returns-in-None-clause-comes g c))
+
+pub returns-in-None-clause-complete : goal.returns-in-None-clause-complete
+returns-in-None-clause-complete g c = accepts-valid _ _ (returns-in-None-clause-comes g c)
+
+pub returns-in-None-clause-refused : goal.returns-in-None-clause-refused
+returns-in-None-clause-refused g c = refuses-none _ _ (returns-in-None-clause-comes g c)

@@ -1,0 +1,66 @@
+use Rattle.std.proofs.Common.{arith, refl}
+use Rattle.std.proofs.lemmas.Result.{err_from_is_err_and}
+use Rattle.nf_program.specs.declared.program.Command.TheVariants.{Check}
+use Rattle.netflow.specs.Steps.{names_of, sets_of}
+use Rattle.netflow.proofs.StopFacts.{both-cases}
+use Rattle.netflow.proofs.top.check_answer.Goals as goal
+
+pub returns-in_err-program-clause-answer : goal.returns-in_err-program-clause-answer
+returns-in_err-program-clause-answer g c =
+    let p = err_from_is_err_and c.from_residual.result c.from_residual.ensures.1 in
+    rw (p.1, p.2) (c.in_err-program.ensures.stops _ (record { left = refl; rest = refl; faults = refl; faults_after = refl }) c.requires.command)
+
+pub returns-in_default-clause-answer : goal.returns-in_default-clause-answer
+returns-in_default-clause-answer g c = (
+  Check,
+  c.in_ok-program.program,
+  c.in_ok-program.ensures.reads _ (record { left = refl; rest = refl; faults = refl; faults_after = refl }) c.requires.command,
+  λ h. c.in_default.ensures h.0 h.1,
+)
+
+pub returns-in_err-sets-clause-answer : goal.returns-in_err-sets-clause-answer
+returns-in_err-sets-clause-answer g c =
+    let p = err_from_is_err_and c.from_residual-in_err-sets.result c.from_residual-in_err-sets.ensures.1 in
+    rw (p.1, p.2) (c.in_err-sets.ensures.stops _
+    (record { held = refl; since = omega arith; until = omega arith; missed_since = λ q. omega arith; missed_until = λ q. omega arith })
+    (record {
+      program = c.in_ok-program.program;
+      reads = c.in_ok-program.ensures.reads _ (record { left = refl; rest = refl; faults = refl; faults_after = refl }) c.requires.command;
+      stands = c.in-Some.ensures;
+    }))
+
+pub returns-in_err-tables-clause-answer : goal.returns-in_err-tables-clause-answer
+returns-in_err-tables-clause-answer g c =
+    let p = err_from_is_err_and c.from_residual-in_err-tables.result c.from_residual-in_err-tables.ensures.1 in
+    rw (p.1, p.2) (c.in_err-tables.ensures.stops _
+    (record {
+      names = names_of c.in-Some.names.arcdata.now c.in-Some.names.nodedata.now c.in-Some.names.certdata.now;
+      named = record {
+        program = c.in_ok-program.program;
+        reads = c.in_ok-program.ensures.reads _ (record { left = refl; rest = refl; faults = refl; faults_after = refl }) c.requires.command;
+        stands = c.in-Some.ensures;
+      };
+      held = c.in_ok-sets.ensures.ok;
+    }))
+
+pub returns-clause-answer : goal.returns-clause-answer
+returns-clause-answer g c =
+    both-cases c.judge.result c.judge.ensures.ok c.judge.ensures.stops
+    (λ x h. h _ (sets_of c.in_ok-sets.sets) (record {
+      names = names_of c.in-Some.names.arcdata.now c.in-Some.names.nodedata.now c.in-Some.names.certdata.now;
+      named = record {
+        program = c.in_ok-program.program;
+        reads = c.in_ok-program.ensures.reads _ (record { left = refl; rest = refl; faults = refl; faults_after = refl }) c.requires.command;
+        stands = c.in-Some.ensures;
+      };
+      held = c.in_ok-sets.ensures.ok;
+    }) c.in_ok-tables.ensures.ok)
+    (λ x h. h _ (sets_of c.in_ok-sets.sets) (record {
+      names = names_of c.in-Some.names.arcdata.now c.in-Some.names.nodedata.now c.in-Some.names.certdata.now;
+      named = record {
+        program = c.in_ok-program.program;
+        reads = c.in_ok-program.ensures.reads _ (record { left = refl; rest = refl; faults = refl; faults_after = refl }) c.requires.command;
+        stands = c.in-Some.ensures;
+      };
+      held = c.in_ok-sets.ensures.ok;
+    }) c.in_ok-tables.ensures.ok)

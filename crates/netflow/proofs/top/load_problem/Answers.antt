@@ -1,0 +1,17 @@
+use Rattle.std.proofs.Common.{refl, arith}
+use Rattle.std.proofs.lemmas.Result.{err_from_is_err_and}
+use Rattle.nf_program.specs.declared.program.Command.TheVariants.{Run}
+use Rattle.netflow.specs.Steps.{sets_of}
+use Rattle.netflow.proofs.StopFacts.{err-then, held-there, run-tables}
+use Rattle.netflow.proofs.top.load_problem.Goals as goal
+
+pub returns-in_err-arcs-clause-stops : goal.returns-in_err-arcs-clause-stops
+returns-in_err-arcs-clause-stops g c =
+    let p = err_from_is_err_and c.from_residual-in_err-arcs.result c.from_residual-in_err-arcs.ensures.1 in
+    rw (p.1, p.2) (λ i saw named. c.in_err-arcs.ensures.stops i (record { names = _; named = named; held = held-there i Run _ _ _ saw.held c.in_ok-sets.ensures.ok }))
+
+pub returns-clause-stops : goal.returns-clause-stops
+returns-clause-stops g c =
+    err-then c.pose.result c.pose.ensures.stops
+    (λ stop h i saw named. h i Run (sets_of c.in_ok-sets.sets) _ (record { names = _; named = named; held = held-there i Run _ _ _ saw.held c.in_ok-sets.ensures.ok })
+    (run-tables (sets_of c.in_ok-sets.sets) _ _ c.in_ok-arcs.ensures.arcs c.in_ok-arcs.ensures.nodes) refl refl)

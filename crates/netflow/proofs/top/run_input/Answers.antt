@@ -1,0 +1,41 @@
+use Rattle.std.proofs.Common.{arith, refl}
+use Rattle.std.proofs.lemmas.Result.{err_from_is_err_and}
+use Rattle.nf_program.specs.declared.program.Command.TheVariants.{Run}
+use Rattle.netflow.specs.Steps.{names_of}
+use Rattle.netflow.proofs.top.run_input.Goals as goal
+
+pub returns-in_err-program-clause-input : goal.returns-in_err-program-clause-input
+returns-in_err-program-clause-input g c =
+    let p = err_from_is_err_and c.from_residual.result c.from_residual.ensures.1 in
+    rw (p.1, p.2) (c.in_err-program.ensures.stops _ (record { left = refl; rest = refl; faults = refl; faults_after = refl }) c.requires.command)
+
+pub returns-in_default-clause-input : goal.returns-in_default-clause-input
+returns-in_default-clause-input g c = (
+  Run,
+  c.in_ok-program.program,
+  c.in_ok-program.ensures.reads _ (record { left = refl; rest = refl; faults = refl; faults_after = refl }) c.requires.command,
+  λ h. c.in_default.ensures h.0 h.1,
+)
+
+pub returns-in_err-problem-clause-input : goal.returns-in_err-problem-clause-input
+returns-in_err-problem-clause-input g c =
+    let p = err_from_is_err_and c.from_residual-in_err-problem.result c.from_residual-in_err-problem.ensures.1 in
+    rw (p.1, p.2) (c.in_err-problem.ensures.stops _
+    (record { held = refl; since = omega arith; until = omega arith; missed_since = λ q. omega arith; missed_until = λ q. omega arith })
+    (record {
+      program = c.in_ok-program.program;
+      reads = c.in_ok-program.ensures.reads _ (record { left = refl; rest = refl; faults = refl; faults_after = refl }) c.requires.command;
+      stands = c.in-Some.ensures;
+    }))
+
+pub returns-clause-input : goal.returns-clause-input
+returns-clause-input g c =
+    let posed = c.in_ok-problem.ensures.posed in
+    record {
+      reads = c.in_ok-program.ensures.reads _ (record { left = refl; rest = refl; faults = refl; faults_after = refl }) c.requires.command;
+      names = names_of c.in-Some.names.arcdata.now c.in-Some.names.nodedata.now c.in-Some.names.certdata.now;
+      stands = c.in-Some.ensures;
+      sets = posed.0;
+      held = posed.1;
+      posed = posed.2;
+    }

@@ -1,0 +1,78 @@
+-- The standing part of the language: which programs of the grammar a command takes today. What a program names, and so
+-- what is fetched, rests on it.
+use Rattle.std.specs.Prelude.{◌≡◌, ◌==◌, ℕ, Bool, true, false, ◌||◌, not, List, [], Some, is_some}
+use Rattle.nf_program.specs.declared.program.Command.{Command}
+use Rattle.nf_program.specs.declared.program.Command.TheVariants.{Run, Check}
+use Rattle.nf_program.specs.declared.program.ProcOptions.{ProcOptions}
+use Rattle.nf_program.specs.declared.program.Program.{Program}
+use Rattle.nf_program.specs.declared.program.PriceType.{PriceType}
+use Rattle.nf_program.specs.declared.program.PriceType.TheVariants.{First, Best, Bland}
+use Rattle.nf_program.specs.declared.program.SessionOptions.{SessionOptions}
+use Rattle.nf_run.specs.Stops.{are_standing}
+
+-- The names of the data sets of a program. `run` has none for CERTDATA=.
+pub record SetNames : Type 0 where
+  pub arcdata : List ℕ
+  pub nodedata : List ℕ
+  pub certdata : List ℕ
+
+-- PROC says more of the network than its arcs and nodes: side rows, another sense, defaults, or supplies of its own.
+abbrev pub says_more : ProcOptions → Bool
+says_more p =
+    is_some p.condata || p.sparsecondata || p.thrunet || p.maximize
+    || is_some p.defcost || is_some p.defminflow || is_some p.defcapacity || is_some p.defcontype
+    || is_some p.source || is_some p.sink || is_some p.supply || is_some p.demand
+
+-- `check` takes a program whose PROC names ARCDATA=, NODEDATA= and CERTDATA=, and says no more of the network, and that
+-- has no role statement. WARM, CONIN=, DUALIN=, SESSIONDATA=, output options and session options may stand there: they
+-- are not looked at. Of acts it has a QUIT or none, by the grammar.
+pub record StandsForCheck (p : Program) (n : SetNames) : Type 0 where
+  pub arcdata : p.proc.arcdata ≡ Some n.arcdata
+  pub nodedata : p.proc.nodedata ≡ Some n.nodedata
+  pub certdata : p.proc.certdata ≡ Some n.certdata
+  pub plain : says_more p.proc ≡ false
+  pub roles : p.roles ≡ []
+
+-- The rule FIRST.
+abbrev pub is_first : PriceType → Bool
+is_first First = true
+is_first Best = false
+is_first Bland = false
+
+-- PROC asks for saved tables or outputs.
+abbrev pub asks_tables : ProcOptions → Bool
+asks_tables p =
+    p.warm || is_some p.conin || is_some p.dualin || is_some p.sessiondata
+    || is_some p.arcout || is_some p.nodeout || is_some p.conout || is_some p.dualout || is_some p.sessionout || is_some p.certout
+
+-- A session option other than MAXIT1= and PRICETYPE1= has not its default.
+abbrev pub asks_more : SessionOptions → Bool
+asks_more o =
+    not (o.maxit2 == 1000000) || not (o.pause1 == 0) || not (o.pause2 == 0)
+    || o.feasiblepause1 || o.feasiblepause2 || o.endpause1 || o.future1 || o.future2 || not (is_first o.pricetype2)
+
+-- `run` takes a program whose PROC names ARCDATA= and NODEDATA=, says no more of the network, and has of session options
+-- MAXIT1= and PRICETYPE1= alone; that has no role statement, and of acts RUN and QUIT alone. CERTDATA= may stand there:
+-- it is not looked at.
+pub record StandsForRun (p : Program) (n : SetNames) : Type 0 where
+  pub arcdata : p.proc.arcdata ≡ Some n.arcdata
+  pub nodedata : p.proc.nodedata ≡ Some n.nodedata
+  pub certdata : n.certdata ≡ []
+  pub plain : says_more p.proc ≡ false
+  pub tables : asks_tables p.proc ≡ false
+  pub session : asks_more p.proc.session ≡ false
+  pub roles : p.roles ≡ []
+  pub acts : are_standing p.acts ≡ true
+
+-- The command takes the program, which names these data sets.
+abbrev pub StandsFor : Command → Program → SetNames → Type 0
+StandsFor Check p n = StandsForCheck p n
+StandsFor Run p n = StandsForRun p n
+
+-- The command takes the program.
+abbrev pub IsStanding : Command → Program → Type 0
+IsStanding c p = (n : SetNames) × StandsFor c p n
+
+-- The most bytes of a program's text.
+abbrev pub most_program : ℕ
+most_program = 1048576

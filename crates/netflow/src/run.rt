@@ -1,0 +1,75 @@
+//! The run of a program on its problem.
+ghost use Rattle.std.specs.Prelude.{true, ◌≡◌, ◌≤◌, ℕ, List, Option};
+ghost use Rattle.std.specs.Io.KnownBytes.{Appends};
+ghost use Rattle.nf_model.specs.Program.{LinearProgram};
+ghost use Rattle.nf_program.specs.declared.program.Program.{Program as ProgramRead};
+ghost use Rattle.nf_run.specs.Runs.{IsCut};
+ghost use Rattle.nf_run.specs.Setting.{IsPlain};
+ghost use Rattle.nf_run.specs.Stops.{are_standing};
+ghost use Rattle.netflow.specs.Outcome.{Call, Comes, Input, RunsOn};
+
+use crate::lines;
+use crate::status::Status;
+use nf_frac::Passed;
+use nf_io::{PutFault, Sink, write_all};
+use nf_prob::Problem;
+use nf_run::{RunFault, run_program};
+use nf_stmt::Program;
+use std::alloc::Global;
+
+// Tells an operation of a run that passes 128 bits, behind the lines of the statements before it.
+fn tell_range<K: Sink>(alloc: Global, pivots: u64, passed: Passed, listing: &mut K) -> Status
+    ensures calm { K.quiet listing.old ≡ true → K.faults listing.new ≡ K.faults listing.old }
+    ensures comes { (input : Input) (program : ProgramRead) (problem : LinearProgram) (front : List ℕ) (written : Option (List ℕ)) (faults : ℕ) →
+        let call : Call = record {
+          input = input;
+          written = written;
+          put = K.written listing.new;
+          sink_faults = faults;
+          sink_faults_after = K.faults listing.new;
+        } in
+        RunsOn input program problem → IsCut problem program.proc.session program.acts front pivots passed
+        → Appends written (K.written listing.old) front → faults ≤ K.faults listing.old → Comes call result }
+{
+    let Ok(line) = lines::step_range(alloc, pivots, &passed) else {
+        return Status::NoMemory;
+    };
+    match write_all(listing, line.bytes()) {
+        Ok(()) => Status::RangePassed,
+        Err(PutFault::Failed) => Status::WriteFault,
+        Err(PutFault::NoMemory) => Status::NoMemory,
+    }
+}
+
+/// Obeys the statements of a program on its problem, and answers how that ended. Where an operation passes 128 bits, the
+/// last line of the listing tells it.
+pub(crate) fn run<K: Sink>(
+    alloc: Global,
+    problem: &Problem,
+    program: &Program,
+    listing: &mut K,
+) -> Status
+    requires plain { IsPlain problem.now }
+    requires acts { are_standing program.now.acts ≡ true }
+    ensures calm { K.quiet listing.old ≡ true → K.faults listing.new ≡ K.faults listing.old }
+    ensures comes { (input : Input) →
+        let call : Call = record {
+          input = input;
+          written = K.written listing.old;
+          put = K.written listing.new;
+          sink_faults = K.faults listing.old;
+          sink_faults_after = K.faults listing.new;
+        } in
+        RunsOn input program.now problem.now → Comes call result }
+{
+    let (options, acts) = (&program.proc.session, program.acts.items());
+    let fault = match run_program(alloc, problem, options, acts, listing) {
+        Ok(()) => return Status::Finished,
+        Err(fault) => fault,
+    };
+    match fault {
+        RunFault::Range { pivots, passed, .. } => tell_range(alloc, pivots, passed, listing),
+        RunFault::Write => Status::WriteFault,
+        RunFault::NoMemory => Status::NoMemory,
+    }
+}
