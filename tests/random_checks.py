@@ -10,7 +10,7 @@ table, the certificate's rows, the program text, the words, the files. What the 
 bytes of the files by the second half of this script, which shares nothing with the program. Status and listing are
 compared byte by byte. A scenario depends on the seed and its number alone.
 
-    --oracle PATH     compares with another implementation besides: it is started as `PATH/netflow --stage 1`
+    --oracle PATH     compares with another implementation besides: it is started as `PATH/netflow --stage 2`
     --first N         begins at scenario N
     --keep FOLDER     keeps the files of scenarios that fail
 """
@@ -449,23 +449,49 @@ def wide_but_feasible(r, s):
 
 PROGRAMS = [
     PROGRAM + "\n", PROGRAM + "\n\n", PROGRAM + " ", PROGRAM.upper(), PROGRAM[:-1], "", "x", PROGRAM + "\r\n", " " + PROGRAM,
-    "proc netflow arcdata=arcs nodedata=nodes certdata=k; run;", "proc  netflow arcdata=arcs nodedata=nodes certdata=k;",
+    PROGRAM + " run;", "proc  netflow arcdata=arcs nodedata=nodes certdata=k;",
     "proc netflow nodedata=nodes arcdata=arcs certdata=k;", "proc netflow arcdata=arcs nodedata=nodes;",
     "proc netflow arcdata=Arcs nodedata=nodes certdata=k;", "proc netflow arcdata= nodedata=nodes certdata=k;",
     "proc netflow arcdata=arcs nodedata=nodes certdata=" + "k" * 33 + ";",
     "proc netflow arcdata=arcs nodedata=nodes certdata=" + "k" * 32 + ";",
-    "proc netflow arcdata=arcs nodedata=nodes certdata=0_9;", "proc netflow arcdata=arcs nodedata=arcs certdata=k;",
+    "proc netflow arcdata=arcs nodedata=nodes certdata=_9;", "proc netflow arcdata=arcs nodedata=nodes certdata=0_9;",
+    "proc netflow arcdata=arcs nodedata=arcs certdata=k;",
     "proc netflow arcdata=nodes nodedata=arcs certdata=k;", "proc netflow arcdata=arcs nodedata=nodes certdata=nodes;",
-    "proc netflow arcdata=arcs nodedata=nodes certdata=k;;", "proc netflow arcdata=arcs nodedata=nodes certdata=k;\n" + " " * 1048576,
+    PROGRAM + ";", PROGRAM + "\n" + " " * (1048576 - len(PROGRAM) - 1), PROGRAM + "\n" + " " * 1048576,
 ]
+
+# what may stand behind `certdata=k`, and behind the PROC statement
+PARTS = ["warm", "conin=a", "dualin=b", "sessiondata=c", "maxit1=5", "MAXIT2=0", "pause1=007", "future1", "nofuture1", "Future2", "pricetype1=best",
+         "pricetype2=queue", "arcout=o", "certout=K", "thrunet", "max", "maximize", "defcost=1.5", "defcost=1.2345", "defcapacity=INF",
+         "source=a", "source='a b'", "sink=5", "supply=3", "demand=-2", "condata=d", "sparsecondata", "defcontype=ge", "defcontype=cost",
+         "foo", "foo=1", "arcdata=x", "run", "5", "'q'", "=", "endpause1=1", "maxit1=1000000000"]
+STATEMENTS = ["quit;", "run;", "tail t;", "tail t u;", "from f;", "var x y;", "id 'a b' c;", "id;", "cost ;", "proc netflow;", "print arcs;",
+              "save arcout=x;", "reset;", ";", "bar;", "5;", "quit", "show status", "node 'n\";", "/* c */", "/* c"]
 
 
 def other_program(r, s):
-    s.program = r.choice(PROGRAMS).encode() if r.random() < 0.95 else b"proc netflow arcdata=\xff nodedata=nodes certdata=k;"
+    how = r.random()
+    if how < 0.05:
+        s.program = b"proc netflow arcdata=\xff nodedata=nodes certdata=k;"
+    elif how < 0.4:
+        s.program = r.choice(PROGRAMS).encode()
+    elif how < 0.9:
+        parts = ["arcdata=arcs", "nodedata=nodes", "certdata=k"] + r.choices(PARTS, k=r.choice([0, 1, 1, 2, 3]))
+        r.shuffle(parts)
+        s.program = ("proc netflow " + " ".join(parts) + "; " + " ".join(r.choices(STATEMENTS, k=r.choice([0, 0, 1, 2])))).encode()
+    else:
+        text = bytearray(PROGRAM.encode())
+        for _ in range(r.choice([1, 1, 2])):
+            at = r.randrange(len(text))
+            if r.random() < 0.5:
+                text[at] = r.choice(b"aZ_09.-= ;'\"/*%\n")
+            else:
+                del text[at]
+        s.program = bytes(text)
 
 
 def other_words(r, s):
-    s.words = r.choice([[], ["run"], ["check", "check"], ["Check"], [""], ["sample", "1", "3", "3", "0"], ["help"], ["--help"], ["check", ""]])
+    s.words = r.choice([[], ["run", "run"], ["check", "check"], ["Check"], [""], ["sample", "1", "3", "3", "0"], ["help"], ["--help"], ["check", ""]])
 
 
 CHANGES = [
@@ -473,7 +499,7 @@ CHANGES = [
     (3, change_supplies), (2, other_total), (4, bad_arc_cell), (3, good_arc_cell), (2, repeat_arc), (3, bad_node_cell),
     (2, repeat_node), (1, many_nodes), (4, other_header), (4, short_row), (3, not_text), (3, empty_file), (2, absent_file),
     (2, folder_for_file), (5, cert_columns), (3, cert_item), (3, cert_number), (4, cert_value), (3, cert_verdict),
-    (4, cert_short), (3, cert_long), (2, cert_moved), (4, cert_wide), (4, wide_but_feasible), (4, other_program), (2, other_words),
+    (4, cert_short), (3, cert_long), (2, cert_moved), (4, cert_wide), (4, wide_but_feasible), (12, other_program), (2, other_words),
 ]
 
 
@@ -650,20 +676,192 @@ def verify(arcs, supply, flow, dual):
     return sum((cost * flow[j] for j, (_, _, cost, _) in enumerate(arcs)), Fraction(0))
 
 
+# the program's text: words and kinds as docs/FORMATS.md lists them
+
+SETS = "arcdata nodedata condata certdata conin dualin sessiondata".split()
+OUTPUTS = "arcout nodeout conout dualout sessionout certout".split()
+FLAGS = {"sparsecondata": "sparsecondata", "thrunet": "thrunet", "maximize": "maximize", "max": "maximize", "warm": "warm"}
+COUNTS = "maxit1 maxit2 pause1 pause2".split()
+SWITCHES = "feasiblepause1 feasiblepause2 endpause1 future1 future2".split()
+OTHERS = {"defcost": "amount", "defminflow": "amount", "defcapacity": "bound", "defcontype": "type", "source": "node", "sink": "node",
+          "supply": "amount", "demand": "amount", "pricetype1": "rule", "pricetype2": "rule"}
+ROLES = {}
+for spellings in ("tailnode tail from", "headnode head to", "cost", "capacity capac upperbd", "lo lowerbd minflow", "name", "supply", "demand",
+                  "node", "supdem", "var", "type", "rhs", "row", "column", "coef", "id"):
+    for spelling in spellings.split():
+        ROLES[spelling] = spellings.split()[0]
+ACTS = "reset pivot print show save run".split()
+TOKEN = re.compile(rb"(?P<gap>[ \t\r\n]+|/\*.*?\*/)|(?P<word>[A-Za-z_][A-Za-z0-9_]*)|(?P<number>-?[0-9][0-9.]*)"
+                   rb"|(?P<quoted>'[ -&(-~]*'|\"[ !#-~]*\")|(?P<equals>=)|(?P<semicolon>;)", re.S)
+
+
+def refuse(at, kind):
+    raise Answer(3, "PROGRAM REFUSED AT %d: %s" % (at, kind))
+
+
+def tokens_of(text):
+    out, at = [], 0
+    while at < len(text):
+        found = TOKEN.match(text, at)
+        if not found:
+            if text[at:at + 2] == b"/*":
+                refuse(at, "OpenComment")
+            if text[at] in b"'\"":
+                mark = text[at:at + 1]
+                if text.find(mark, at + 1) < 0:
+                    refuse(at, "OpenQuote")
+                refuse(next(n for n in range(at + 1, len(text)) if not 32 <= text[n] <= 126), "BadByte")
+            refuse(at, "BadByte")
+        if found.lastgroup != "gap":
+            out.append((found.lastgroup, found.group(), at))
+        at = found.end()
+    return out
+
+
+def option_of(word):
+    """The option's name, its value's kind (None for a flag), and whether it is one of PROC alone, of output or of the session."""
+    if word in SETS:
+        return word, "set", "proc"
+    if word in OUTPUTS:
+        return word, "set", "output"
+    if word in FLAGS:
+        return FLAGS[word], None, "proc"
+    if word in COUNTS:
+        return word, "count", "session"
+    if word in SWITCHES or (word.startswith("no") and word[2:] in SWITCHES):
+        return word[2:] if word.startswith("no") else word, None, "session"
+    if word in OTHERS:
+        return word, OTHERS[word], "session" if word.startswith("price") else "proc"
+    return None
+
+
+def has_kind(kind, token):
+    sort, text, _ = token
+    amount = sort == "number" and re.fullmatch(rb"-?[0-9]{1,9}(\.[0-9]{1,3})?", text)
+    inner = text[1:-1] if sort == "quoted" else text
+    return {
+        "set": sort == "word" and len(text) <= 32,
+        "amount": amount,
+        "bound": amount or (sort == "word" and text.upper() == b"INF"),
+        "type": sort == "word" and text.upper() in (b"LE", b"L", b"GE", b"G", b"EQ", b"E"),
+        "rule": sort == "word" and text.upper() in (b"FIRST", b"BEST", b"BLAND"),
+        "count": sort == "number" and re.fullmatch(rb"[0-9]{1,9}", text),
+        "node": sort in ("word", "number", "quoted") and re.fullmatch(rb"[A-Za-z0-9_ .-]{1,32}", inner),
+        "column": sort in ("word", "quoted") and 1 <= len(inner) <= 32,
+    }[kind]
+
+
+class Statements:
+    """One pass over the tokens of a program for `check`."""
+
+    def __init__(self, text):
+        self.tokens, self.end, self.at = tokens_of(text), len(text), 0
+
+    def next(self):
+        if self.at == len(self.tokens):
+            refuse(self.end, "MissingSemicolon")
+        self.at += 1
+        return self.tokens[self.at - 1]
+
+    def proc(self):
+        if not self.tokens or self.tokens[0][0] != "word" or self.tokens[0][1].lower() != b"proc":
+            refuse(self.tokens[0][2] if self.tokens else self.end, "NoProc")
+        self.next()
+        token = self.next()
+        if token[0] != "word":
+            refuse(token[2], "WrongValue")
+        if token[1].lower() != b"netflow":
+            refuse(token[2], "UnknownWord")
+        given = {}
+        while True:
+            token = self.next()
+            if token[0] == "semicolon":
+                break
+            if token[0] != "word":
+                refuse(token[2], "WrongValue")
+            option = option_of(token[1].decode().lower())
+            if option is None:
+                refuse(token[2], "UnknownWord")
+            name, kind, group = option
+            if (group == "session" and "warm" in given) or (name == "warm" and any(g == "session" for g, _ in given.values())):
+                refuse(token[2], "OptionNotHere")
+            if name in given:
+                refuse(token[2], "RepeatedOption")
+            value = None
+            if kind:
+                for wanted in ("equals", kind):
+                    value = self.next()
+                    if value[0] != "equals" if wanted == "equals" else not has_kind(kind, value):
+                        refuse(value[2], "WrongValue")
+            given[name] = (group, value[1].decode("latin-1") if value else "")
+        saved = [name in given for name in ("conin", "dualin", "sessiondata")]
+        if "arcdata" not in given or "certdata" not in given or (not all(saved) if "warm" in given else any(saved)) \
+                or any(a in given and b not in given for a, b in (("supply", "source"), ("demand", "sink"), ("sparsecondata", "condata"))):
+            refuse(token[2], "MissingOption")
+        return given
+
+    def behind(self):
+        """The roles of the statements behind PROC."""
+        roles, over = [], False
+        while self.at < len(self.tokens):
+            token = self.next()
+            if token[0] == "semicolon":
+                continue
+            if token[0] != "word":
+                refuse(token[2], "WrongValue")
+            word = token[1].decode().lower()
+            if word in ROLES:
+                role = ROLES[word]
+                if role in roles:
+                    refuse(token[2], "RepeatedOption")
+                if over:
+                    refuse(token[2], "StatementOrder")
+                roles.append(role)
+                self.columns(role)
+            elif word == "quit" and not over:
+                over, token = True, self.next()
+                if token[0] != "semicolon":
+                    refuse(token[2], "UnknownWord" if token[0] == "word" else "WrongValue")
+            elif word in ("proc", "quit") or word in ACTS:
+                refuse(token[2], "StatementOrder")
+            else:
+                refuse(token[2], "UnknownWord")
+        return roles
+
+    def columns(self, role):
+        count = 0
+        while True:
+            token = self.next()
+            if token[0] == "semicolon" and count:
+                return
+            if not has_kind("column", token) or (count and role not in ("var", "id")):
+                refuse(token[2], "WrongValue")
+            count += 1
+
+
+def read_program(text):
+    """The names of ARCDATA, NODEDATA and CERTDATA."""
+    if len(text) > 1048576:
+        refuse(1048576, "TooLong")
+    statements = Statements(text)
+    given, roles = statements.proc(), statements.behind()
+    looked_at = {name for name, (group, _) in given.items() if group == "proc"} - {"warm", "conin", "dualin", "sessiondata"}
+    if roles or looked_at != {"arcdata", "nodedata", "certdata"}:
+        refuse(0, "Form")
+    return [given[name][1].lower() for name in ("arcdata", "nodedata", "certdata")]
+
+
 def expected(words, program, files):
     """Status and listing, and whether numbers are so wide that the check may pass 128 bits."""
     wide = False
     try:
         if words != ["check"]:
             raise Answer(2, USAGE)
-        found = re.fullmatch(rb"proc netflow arcdata=([a-z0-9_]{1,32}) nodedata=([a-z0-9_]{1,32}) certdata=([a-z0-9_]{1,32});\n?", program)
-        if not found:
-            raise Answer(3, "PROGRAM REFUSED AT 0: Form")
         data = []
-        for name in found.groups():
-            content = files.get(name.decode())
+        for name in read_program(program):
+            content = files.get(name)
             if content is None:
-                raise Answer(7, "ABSENT " + name.decode())
+                raise Answer(7, "ABSENT " + name)
             if content is DIRECTORY:
                 raise Answer(5, "READ FAULT")
             data.append(content)
@@ -750,7 +948,7 @@ def main():
     parser.add_argument("--keep", help="a folder for the files of scenarios that fail")
     o = parser.parse_args()
     program = os.path.abspath(o.netflow)
-    other = [os.path.abspath(os.path.join(o.oracle, "netflow")), "--stage", "1"] if o.oracle else None
+    other = [os.path.abspath(os.path.join(o.oracle, "netflow")), "--stage", "2"] if o.oracle else None
     seen, failed = Counter(), 0
     for number in range(o.first, o.first + o.count):
         words, text, files, what = scenario(o.seed, number)

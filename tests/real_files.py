@@ -18,6 +18,7 @@ from fractions import Fraction
 TOP = os.path.dirname(os.path.dirname(os.path.abspath(__file__)))
 EXAMPLE = os.path.join(TOP, "examples", "distribution")
 ACCEPTED = (0, "ACCEPTED OPTIMAL\nTOTAL COST 725\n")
+PROGRAM = b"proc netflow arcdata=arcs nodedata=nodes certdata=certificate;"
 USAGE = "USAGE netflow run | netflow check | netflow sample SEED NODES ARCS CONS"
 
 # file, text that stands there once, text in its place, status, listing
@@ -75,12 +76,28 @@ ONE_CHANGE = [
     ("nodes.csv", "Carlow,-20", "Carlow", 4, "DATA REFUSED NODEDATA ROW 3: RowLength"),
     ("nodes.csv", "_SUPDEM_", "_SUPPLY_", 4, "DATA REFUSED NODEDATA: Form"),
     # the program text
-    ("program.txt", "certificate;\n", "certificate; run;\n", 3, "PROGRAM REFUSED AT 0: Form"),
-    ("program.txt", "proc netflow", "PROC NETFLOW", 3, "PROGRAM REFUSED AT 0: Form"),
-    ("program.txt", "proc netflow", "proc  netflow", 3, "PROGRAM REFUSED AT 0: Form"),
-    ("program.txt", "certificate;", "certificate", 3, "PROGRAM REFUSED AT 0: Form"),
-    ("program.txt", " certdata=certificate", "", 3, "PROGRAM REFUSED AT 0: Form"),
-    ("program.txt", "certificate;\n", "certificate;\n\n", 3, "PROGRAM REFUSED AT 0: Form"),
+    ("program.txt", "certificate;\n", "certificate; quit;\n", *ACCEPTED),
+    ("program.txt", "proc netflow", "/* the plan */ PROC  NetFlow\n", *ACCEPTED),
+    ("program.txt", "certificate;\n", "certificate;\n;\n /* end */", *ACCEPTED),
+    ("program.txt", "arcdata=arcs nodedata=nodes", "NODEDATA = Nodes ArcData = ARCS", *ACCEPTED),
+    ("program.txt", "certificate;", "certificate maxit1=5 pricetype2=best arcout=o future1;", *ACCEPTED),
+    ("program.txt", "certificate;", "certificate warm conin=a dualin=b sessiondata=c;", *ACCEPTED),
+    ("program.txt", "certificate;\n", "certificate; run;\n", 3, "PROGRAM REFUSED AT 63: StatementOrder"),
+    ("program.txt", "proc netflow", "proc flow", 3, "PROGRAM REFUSED AT 5: UnknownWord"),
+    ("program.txt", "proc netflow", "netflow", 3, "PROGRAM REFUSED AT 0: NoProc"),
+    ("program.txt", "certificate;", "certificate", 3, "PROGRAM REFUSED AT 62: MissingSemicolon"),
+    ("program.txt", " certdata=certificate", "", 3, "PROGRAM REFUSED AT 40: MissingOption"),
+    ("program.txt", "arcdata=arcs ", "", 3, "PROGRAM REFUSED AT 48: MissingOption"),
+    ("program.txt", "nodes certdata", "nodes nodedata=n certdata", 3, "PROGRAM REFUSED AT 41: RepeatedOption"),
+    ("program.txt", "arcdata=arcs", "arcdata='arcs'", 3, "PROGRAM REFUSED AT 21: WrongValue"),
+    ("program.txt", "certificate;", "certificate warm maxit1=5;", 3, "PROGRAM REFUSED AT 67: OptionNotHere"),
+    ("program.txt", "certificate;\n", "certificate; /* end\n", 3, "PROGRAM REFUSED AT 63: OpenComment"),
+    ("program.txt", "certificate;\n", "certificate; cost 'c\n", 3, "PROGRAM REFUSED AT 68: OpenQuote"),
+    ("program.txt", "nodes certdata", "nodes, certdata", 3, "PROGRAM REFUSED AT 40: BadByte"),
+    ("program.txt", " nodedata=nodes", "", 3, "PROGRAM REFUSED AT 0: Form"),
+    ("program.txt", "certificate;", "certificate thrunet;", 3, "PROGRAM REFUSED AT 0: Form"),
+    ("program.txt", "certificate;", "certificate defcost=1;", 3, "PROGRAM REFUSED AT 0: Form"),
+    ("program.txt", "certificate;\n", "certificate; cost c;\n", 3, "PROGRAM REFUSED AT 0: Form"),
     ("program.txt", "certdata=certificate", "certdata=elsewhere", 7, "ABSENT elsewhere"),
     ("program.txt", "arcdata=arcs", "arcdata=nodes", 4, "DATA REFUSED ARCDATA: Form"),
 ]
@@ -98,12 +115,13 @@ WHOLE_FILE = [
     ("arcs.csv", b"_FROM_,_TO_,_COST_,_CAPAC_\n\xc3,b,1,1\n", 4, "DATA REFUSED ARCDATA ROW 1: NotText"),
     ("arcs.csv", b"_FROM_,_TO_,_COST_,\xff\n", 4, "DATA REFUSED ARCDATA ROW 0: NotText"),
     ("arcs.csv", b"_FROM_,_TO_,_COST_,_CAPAC_\n" + b"a,b,1,1\n" * (67108864 // 8), 4, "DATA REFUSED ARCDATA: TooLong"),
-    ("program.txt", b"", 3, "PROGRAM REFUSED AT 0: Form"),
-    ("program.txt", b"proc netflow arcdata=arcs nodedata=nodes certdata=certificate;" + b"\n" * 1048576, 3, "PROGRAM REFUSED AT 0: Form"),
-    ("program.txt", b"proc netflow arcdata=\xff nodedata=nodes certdata=certificate;\n", 3, "PROGRAM REFUSED AT 0: Form"),
+    ("program.txt", b"", 3, "PROGRAM REFUSED AT 0: NoProc"),
+    ("program.txt", PROGRAM + b"\n" * (1048576 - len(PROGRAM)), *ACCEPTED),
+    ("program.txt", PROGRAM + b"\n" * (1048577 - len(PROGRAM)), 3, "PROGRAM REFUSED AT 1048576: TooLong"),
+    ("program.txt", b"proc netflow arcdata=\xff nodedata=nodes certdata=certificate;\n", 3, "PROGRAM REFUSED AT 21: BadByte"),
 ]
 
-WORDS = [[], ["run"], ["sample", "1", "3", "3", "0"], ["check", "check"], ["CHECK"], ["check "], [""], ["--help"], ["-"]]
+WORDS = [[], ["run", "run"], ["Run"], ["run "], ["sample", "1", "3", "3", "0"], ["check", "check"], ["CHECK"], ["check "], [""], ["--help"], ["-"]]
 
 
 class Runner:
@@ -266,7 +284,7 @@ def outside(t):
     if not os.path.exists("/dev/full"):
         print("there is no /dev/full here: the full device is left out")
         return
-    for what, words in (("accepted", ["check"]), ("usage", ["run"])):
+    for what, words in (("accepted", ["check"]), ("usage", ["runs"])):
         with Copy() as c, open("/dev/full", "wb") as full:
             got = t.run(c.folder, words, full)
             t.expect("full device, %s" % what, got, 6, "")
