@@ -19,10 +19,10 @@ use Rattle.nf_sums.specs.Terms.{PassesIn, Is, Terms}
 use Rattle.nf_sums.specs.Steps.{AddsProduct}
 use Rattle.nf_sums.specs.Terms.Term.{Product}
 use Rattle.nf_sums.specs.Rows.{product_terms, rest_terms}
-use Rattle.nf_prob.specs.Arising.{BestTerms, FarkasTerms, RayTerms, RowTerms, CostTerms, TotalTerms, RightTerms, cost_row, gap_row}
+use Rattle.nf_prob.specs.Arising.{BestTerms, FarkasTerms, RayTerms, RowTerms, CostTerms, CombinedTerms, TotalTerms, RightTerms, cost_row, combined_row, gap_row}
 use Rattle.nf_prob.specs.Highest.{highest_at, highest_sum}
 use Rattle.nf_prob.specs.Arising.BestTerms.{rest as best_rest, reduced_cost as best_reduced_cost, cost as best_cost}
-use Rattle.nf_prob.specs.Arising.FarkasTerms.{reduced_cost as farkas_reduced_cost, gap as farkas_gap}
+use Rattle.nf_prob.specs.Arising.FarkasTerms.{combination as farkas_combination, gap as farkas_gap}
 use Rattle.nf_prob.specs.Arising.RayTerms.{rest as ray_rest, ray_row, rate as ray_rate}
 use Rattle.nf_sums.proofs.Part.{IsPartOf, same_term}
 use Rattle.nf_sums.proofs.Laws.{carried, gap_passed, in_part, left_of_gap, passes_from, product_added, products_of_remainder, remainder_passed, right_of_gap, wider}
@@ -71,16 +71,16 @@ column_part p y j es q h same positive = record {
         ∙ rise_value 0 (length p.rows) (map entry_of es) k rise (inside k b)
         ∙ ap (λ (d : Entry). d.value) (stored_is es k b)
 
-products_in_cost : (p : LinearProgram) (y : List ℚ) (c : Passed) (j : ℕ) → j < length p.columns → PassesIn (Is (product_terms (length p.rows) (at y) (λ i. coefficient p i j))) c → PassesIn (CostTerms p y) c
-products_in_cost p y c j h =
-    carried (Is (product_terms (length p.rows) (at y) (λ i. coefficient p i j))) (CostTerms p y) c
-    (λ part e. (cost_row p y j, subst (λ t. IsPartOf t (cost_row p y j)) (sym e) (products_of_remainder (column p j).cost (length p.rows) (at y) (λ i. coefficient p i j)), (j, h, refl)))
+-- the combination is what a reduced cost takes from the column's cost
+pub combined_in_cost : (p : LinearProgram) (y : List ℚ) (c : Passed) → PassesIn (CombinedTerms p y) c → PassesIn (CostTerms p y) c
+combined_in_cost p y c =
+    carried (CombinedTerms p y) (CostTerms p y) c
+    (λ part w. (cost_row p y w.0, subst (λ t. IsPartOf t (cost_row p y w.0)) (sym w.2) (products_of_remainder (column p w.0).cost (length p.rows) (at y) (λ i. coefficient p i w.0)), (w.0, w.1, refl)))
 
-pub column_passed : (p : LinearProgram) (y : List ℚ) (j : ℕ) (es : List stored.Entry) (c : Passed) → IsProblem p → j < length p.columns → map entry_of es ≡ (column p j).entries → All (λ e. 0 < e.row) es → PassesIn (Is (product_terms (length es) (weight_taken y es) (value_taken es))) c → PassesIn (CostTerms p y) c
-column_passed p y j es c q h same positive a =
-    products_in_cost p y c j h
-    (carried (Is (product_terms (length es) (weight_taken y es) (value_taken es))) (Is (product_terms (length p.rows) (at y) (λ i. coefficient p i j))) c
-    (λ part e. (product_terms (length p.rows) (at y) (λ i. coefficient p i j), subst (λ t. IsPartOf t (product_terms (length p.rows) (at y) (λ i. coefficient p i j))) (sym e) (column_part p y j es q h same positive), refl)) a)
+pub column_passed : (p : LinearProgram) (y : List ℚ) (j : ℕ) (es : List stored.Entry) (c : Passed) → IsProblem p → j < length p.columns → map entry_of es ≡ (column p j).entries → All (λ e. 0 < e.row) es → PassesIn (Is (product_terms (length es) (weight_taken y es) (value_taken es))) c → PassesIn (CombinedTerms p y) c
+column_passed p y j es c q h same positive =
+    carried (Is (product_terms (length es) (weight_taken y es) (value_taken es))) (CombinedTerms p y) c
+    (λ part e. (combined_row p y j, subst (λ t. IsPartOf t (combined_row p y j)) (sym e) (column_part p y j es q h same positive), (j, h, refl)))
 
 -- the cost less the products of its column
 pub cost_passed : (p : LinearProgram) (y : List ℚ) (j : ℕ) (a b : ℚ) (c : Passed) → j < length p.columns → a ≡ (column p j).cost → b ≡ combined p y j → (c ≡ record { op = Sub; left = a; right = b }) × Passes Sub a b → PassesIn (CostTerms p y) c
@@ -111,8 +111,8 @@ cost_in_best p x y c = wider (CostTerms p y) (BestTerms p x y) c (λ t w. subst 
 pub total_in_best : (p : LinearProgram) (x y : List ℚ) (c : Passed) → PassesIn (TotalTerms p x) c → PassesIn (BestTerms p x y) c
 total_in_best p x y c = wider (TotalTerms p x) (BestTerms p x y) c (λ t w. subst (BestTerms p x y) (sym w) best_cost)
 
-pub cost_in_farkas : (p : LinearProgram) (y : List ℚ) (c : Passed) → PassesIn (CostTerms p y) c → PassesIn (FarkasTerms p y) c
-cost_in_farkas p y c = wider (CostTerms p y) (FarkasTerms p y) c (λ t w. subst (FarkasTerms p y) (sym w.2) (farkas_reduced_cost w.0 w.1))
+pub combined_in_farkas : (p : LinearProgram) (y : List ℚ) (c : Passed) → PassesIn (CombinedTerms p y) c → PassesIn (FarkasTerms p y) c
+combined_in_farkas p y c = wider (CombinedTerms p y) (FarkasTerms p y) c (λ t w. subst (FarkasTerms p y) (sym w.2) (farkas_combination w.0 w.1))
 
 -- the next column's greatest multiple
 pub greatest_in_farkas : (p : LinearProgram) (y : List ℚ) (j : ℕ) (total a b : ℚ) (c : Passed) → j < length p.columns → total ≡ sum_ℚ j (λ k. combined p y k *ℚ highest_at p (combined p y) k) → a ≡ combined p y j → b ≡ highest_at p (combined p y) j → AddsProduct total a b c → PassesIn (FarkasTerms p y) c

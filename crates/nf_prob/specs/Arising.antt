@@ -29,9 +29,13 @@ pub data BestTerms (p : LinearProgram) (x y : List ℚ) : Terms → Type 0 where
 abbrev pub gap_row : LinearProgram → List ℚ → Terms
 gap_row p y = gap_terms (length p.rows) (at y) (λ i. (row p i).right) (length p.columns) (combined p y) (highest_at p (combined p y))
 
+-- Column j of the rows' combination by the duals y: y times the coefficient for each row.
+abbrev pub combined_row : LinearProgram → List ℚ → ℕ → Terms
+combined_row p y j = total_terms (length p.rows) (at y) (λ i. coefficient p i j)
+
 -- One of the rows that count in a check of Farkas duals y.
 pub data FarkasTerms (p : LinearProgram) (y : List ℚ) : Terms → Type 0 where
-  reduced_cost : (j : ℕ) → j < length p.columns → FarkasTerms p y (cost_row p y j)
+  combination : (j : ℕ) → j < length p.columns → FarkasTerms p y (combined_row p y j)
   gap : FarkasTerms p y (gap_row p y)
 
 -- One of the rows that count in a check of values x and a ray r.
@@ -54,6 +58,10 @@ RowTerms p x t = (i : ℕ) × (i < length p.rows) × (t ≡ product_terms (lengt
 -- The reduced cost of a column.
 abbrev pub CostTerms : LinearProgram → List ℚ → Terms → Type 0
 CostTerms p y t = (j : ℕ) × (j < length p.columns) × (t ≡ cost_row p y j)
+
+-- A column of the rows' combination.
+abbrev pub CombinedTerms : LinearProgram → List ℚ → Terms → Type 0
+CombinedTerms p y t = (j : ℕ) × (j < length p.columns) × (t ≡ combined_row p y j)
 
 -- The total cost.
 abbrev pub TotalTerms : LinearProgram → List ℚ → Terms → Type 0

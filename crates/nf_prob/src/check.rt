@@ -3,7 +3,7 @@ ghost use Rattle.std.specs.Prelude.{◌≡◌, ◌<◌, ◌-◌, ◌↔◌, ℕ,
 ghost use Rattle.nf_num.specs.Rational.{ℚ};
 ghost use Rattle.nf_model.specs.Certificate.{CostFits, DualFits, combined, reduced_cost};
 ghost use Rattle.nf_model.specs.Program.{HoldsBelow, IsFeasible, IsInBounds, RowHolds, at, column, cost_of, row_sum};
-ghost use Rattle.nf_prob.specs.Arising.{BestTerms, CheckTerms, CostTerms, RowTerms, TotalTerms};
+ghost use Rattle.nf_prob.specs.Arising.{BestTerms, CheckTerms, CombinedTerms, CostTerms, RowTerms, TotalTerms};
 ghost use Rattle.nf_prob.specs.Numbers.{IsNumber};
 ghost use Rattle.nf_prob.specs.Stored.{row_entry, stored_entry};
 ghost use Rattle.nf_sums.specs.Terms.{PassesIn};
@@ -218,7 +218,7 @@ pub(crate) fn combined_at<L: Ledger>(
     requires duals { length y.now ≡ length p.now.rows }
     requires within { j < length p.now.columns }
     ensures value { IfOk result (λ s. s ≡ combined p.now y.now j) }
-    ensures passed { IfErr result (PassesIn (CostTerms p.now y.now)) }
+    ensures passed { IfErr result (PassesIn (CombinedTerms p.now y.now)) }
 {
     let entries = p.entries_at(j);
     let factors = |k: usize| -> (Frac, Frac)

@@ -4,7 +4,7 @@ ghost use Rattle.nf_num.specs.Rational.{ℚ};
 ghost use Rattle.nf_model.specs.Certificate.{combined};
 ghost use Rattle.nf_model.specs.Farkas.{ColumnIsBounded, DualIsSigned, IsGap, IsGreatest, combined_right};
 ghost use Rattle.nf_model.specs.Program.{HoldsBelow, at, row};
-ghost use Rattle.nf_prob.specs.Arising.{CostTerms, FarkasTerms, RightTerms};
+ghost use Rattle.nf_prob.specs.Arising.{CombinedTerms, FarkasTerms, RightTerms};
 ghost use Rattle.nf_prob.specs.Greatest.{IsGreatestAnswer, IsShare};
 ghost use Rattle.nf_prob.specs.Highest.{highest_sum};
 ghost use Rattle.nf_prob.specs.Verdict.{IsFarkasAnswer, IsFirst};
@@ -108,7 +108,7 @@ fn share_at<L: Ledger>(
     requires duals { length y.now ≡ length p.now.rows }
     requires within { j < length p.now.columns }
     ensures value { IfOk result (λ r. MatchOption r (ColumnIsBounded p.now (combined p.now y.now) j → ⊥) (IsShare p.now (combined p.now y.now) j)) }
-    ensures passed { IfErr result (PassesIn (CostTerms p.now y.now)) }
+    ensures passed { IfErr result (PassesIn (CombinedTerms p.now y.now)) }
 {
     let weight = combined_at(p, j, y, steps)?;
     match place_of_greatest(Some(p.lower_at(j)), p.upper_at(j), weight) {

@@ -9,7 +9,7 @@ use Rattle.nf_model.specs.Program.{HoldsBelow}
 use Rattle.nf_prob.specs.Greatest.{IsShare}
 use Rattle.nf_prob.specs.Highest.{highest_at, highest_sum}
 use Rattle.nf_prob.proofs.Answered.{greatest_found}
-use Rattle.nf_prob.proofs.Arises.{cost_in_farkas, greatest_in_farkas}
+use Rattle.nf_prob.proofs.Arises.{combined_in_farkas, greatest_in_farkas}
 use Rattle.nf_sums.proofs.Up.{handed_on}
 use Rattle.nf_prob.proofs.farkas.greatest_value.Goals as goal
 
@@ -17,7 +17,7 @@ pub loop-j-init : goal.loop-j-init
 loop-j-init g c = record { bounded = λ k h. absurd (omega arith); total = c.zero-total.ensures ∙ sym (sum-zero _) }
 
 pub returns-in_err-share-clause-passed : goal.returns-in_err-share-clause-passed
-returns-in_err-share-clause-passed g c = handed_on c.from_residual.result _ _ c.from_residual.ensures.1 (cost_in_farkas c.args.p.now c.args.y.now _ c.in_err-share.ensures.passed)
+returns-in_err-share-clause-passed g c = handed_on c.from_residual.result _ _ c.from_residual.ensures.1 (combined_in_farkas c.args.p.now c.args.y.now _ c.in_err-share.ensures.passed)
 
 pub returns-in_err-total-clause-passed : goal.returns-in_err-total-clause-passed
 returns-in_err-total-clause-passed g c =
