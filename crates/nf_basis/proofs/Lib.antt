@@ -8,8 +8,10 @@ mod Pivoted
 mod Arisen
 mod Flipped
 mod Started
+mod Keeping
 mod Loaded
 mod Wanted
 mod LoadStart
 mod LoadEnd
 mod Restored
+pub mod FirstLoad

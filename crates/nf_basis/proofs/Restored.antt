@@ -52,7 +52,8 @@ count_less : (n : ℕ) (s t : ℕ → Place) → ((j : ℕ) → j < n → s j �
 count_less zero s t f = omega arith
 count_less (suc n) s t f = let a = count_less n s t (λ j h. f j (omega arith)) in let b = one_less (s n) (t n) (f n (omega arith)) in omega arith
 
-same_basics : (n : ℕ) (s t : ℕ → Place) → ((j : ℕ) → j < n → s j ≡ Basic → t j ≡ Basic) → count_basic n t ≤ count_basic n s → (j : ℕ) → j < n → t j ≡ Basic → s j ≡ Basic
+-- so they are the same.
+pub same_basics : (n : ℕ) (s t : ℕ → Place) → ((j : ℕ) → j < n → s j ≡ Basic → t j ≡ Basic) → count_basic n t ≤ count_basic n s → (j : ℕ) → j < n → t j ≡ Basic → s j ≡ Basic
 same_basics zero s t f most j h b = absurd (omega arith)
 same_basics (suc n) s t f most j h b = of (below_last j n h) (same_basics n s t (λ i l. f i (omega arith)) less)
   where
@@ -140,14 +141,21 @@ module _ (p : LinearProgram) (s : Standing) (ok : IsProblem p) (slots : List Col
   pub inverse_end : IsInverseOf p s slots w
   inverse_end = record { size = h.inverse.size; right = h.inverse.right; left = h.inverse.left }
 
-  own_load : IsLoadBasis p s s
-  unfolding basis_end
-  own_load = record { same_stage = refl; same_signs = refl; basis = basis_end; wanted = λ j l b. inl b }
-
-  in_load : (c : Passed) → PassesIn (StateTerms p s) c → PassesIn (LoadTerms p s) c
-  in_load c = wider (StateTerms p s) (LoadTerms p s) c (λ row a. (s, own_load, a))
-
   module _ (st : IsStateOf p s) where
+    own_load : IsLoadBasis p s s
+    unfolding basis_end
+    own_load = record {
+      same_stage = refl;
+      same_signs = refl;
+      state = st;
+      basis = basis_end;
+      keeps = record { nonbasic = λ j l n o. refl; waiting = λ j l n b. absurd (n b) };
+      wanted = λ j l b. inl b;
+    }
+
+    in_load : (c : Passed) → PassesIn (StateTerms p s) c → PassesIn (LoadTerms p s) c
+    in_load c = wider (StateTerms p s) (LoadTerms p s) c (λ row a. (s, own_load, a))
+
     S : Stage
     S = stage_of p s
 
