@@ -1,0 +1,3 @@
+mod Listed
+mod Moved
+pub mod Valid
