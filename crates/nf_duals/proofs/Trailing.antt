@@ -52,7 +52,7 @@ sums_cut c m k y a h u v s = record {
 }
 
 -- no product with a factor 0 passes
-no_zero_factor : (a b u v : ℚ) → a ≡ zero_ℚ → AreFactors a b u v → Passes Mul u v → ⊥
+pub no_zero_factor : (a b u v : ℚ) → a ≡ zero_ℚ → AreFactors a b u v → Passes Mul u v → ⊥
 no_zero_factor a b u v e (inl f) p = p (zero_fits u v (zero_up_to_sign a u e f.0))
 no_zero_factor a b u v e (inr f) p = p (fits_zero u v (zero_up_to_sign a v e f.0))
 

@@ -1,3 +1,5 @@
 mod Listed
 mod Moved
+mod Gap
+mod Arises
 pub mod Valid

@@ -4,7 +4,6 @@ use Rattle.std.proofs.lemmas.List.FromFn.{fill_by_all}
 use Rattle.nf_num.specs.Rational.{ℚ, zero_ℚ, one_ℚ, ◌-ℚ◌, neg_ℚ}
 use Rattle.nf_num.specs.Sum.{delta}
 use Rattle.nf_num.proofs.Laws.{zero_add}
-use Rattle.nf_num.proofs.Rewrites.{add_zero}
 use Rattle.nf_num.proofs.Sums.{delta_same, delta_other}
 use Rattle.nf_num.proofs.Field.{ring, codes}
 use Rattle.nf_model.specs.Program.{LinearProgram, at}
@@ -13,10 +12,9 @@ use Rattle.nf_simplex.specs.Place as model
 use Rattle.nf_simplex.specs.Step.{signed}
 use Rattle.nf_simplex.specs.Layout.{layout_of}
 use Rattle.nf_simplex.specs.Columns.{all_columns}
-use Rattle.nf_simplex.specs.Standing.{Standing, place_at, rows_of, AreEntriesOf}
+use Rattle.nf_simplex.specs.Standing.{Standing, place_at, rows_of}
 use Rattle.nf_simplex.specs.Verdicts.{AreMoves, move_of}
 use Rattle.nf_simplex.proofs.Basis.{basic_or_not}
-use Rattle.nf_simplex.proofs.Orders.{less_or_not}
 use Rattle.nf_simplex.proofs.Sum.{equal_or_not}
 use Rattle.nf_basis.specs.declared.col.Col.{Col}
 use Rattle.nf_basis.specs.Names.{col_of}

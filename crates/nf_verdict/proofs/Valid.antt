@@ -1,5 +1,4 @@
 -- The certificate of a state that has ended is valid, and so has the program's lengths.
-use Rattle.std.proofs.Common.{◌≡◌}
 use Rattle.nf_model.specs.Program.{LinearProgram}
 use Rattle.nf_model.specs.Problem.{IsProblem}
 use Rattle.nf_prob.specs.declared.cert.Cert.{Cert}

@@ -1,6 +1,5 @@
 -- The certificate of a state that has ended, and what it is to be valid.
 -- `cert_of` promises it, and every verdict of a run rests on it.
-use Rattle.std.specs.Prelude.{◌≡◌}
 use Rattle.nf_model.specs.Program.{LinearProgram}
 use Rattle.nf_model.specs.Certificate.{IsValidBest}
 use Rattle.nf_model.specs.Farkas.{IsValidFarkas}
