@@ -1,17 +1,18 @@
-mod Named
+pub mod Named
 mod Lowest
-mod Rests
+pub mod Rests
 mod Entered
-mod Inverse
-mod Spread
+pub mod Inverse
+pub mod Spread
 mod Pivoted
 mod Arisen
 mod Flipped
 mod Started
 mod Keeping
 mod Loaded
-mod Wanted
+pub mod Wanted
 mod LoadStart
 mod LoadEnd
+pub mod RestNumbers
 mod Restored
 pub mod FirstLoad

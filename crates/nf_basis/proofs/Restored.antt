@@ -1,5 +1,5 @@
 -- A load that has taken all wanted columns is the state's own basis; its values, and where their operations arise.
-use Rattle.std.proofs.Common.{◌≡◌, ◌≢◌, ◌⊎◌, inl, inr, ℕ, zero, suc, ◌+◌, ◌-◌, ◌<◌, ◌≤◌, Bool, false, List, [], ◌∷◌, length, set, Option, Some, None, refl, sym, ap, ap₂, ◌∙◌, subst, arith}
+use Rattle.std.proofs.Common.{◌≡◌, ◌≢◌, ◌⊎◌, inl, inr, ℕ, zero, suc, ◌+◌, ◌-◌, ◌<◌, ◌≤◌, Bool, List, [], ◌∷◌, length, set, Option, Some, None, refl, sym, ap, ap₂, ◌∙◌, subst, arith}
 use Rattle.std.proofs.lemmas.List.{get_or-set_same, get_or-set_other}
 use Rattle.nf_num.specs.Rational.{ℚ, zero_ℚ, ◌+ℚ◌, ◌*ℚ◌, neg_ℚ}
 use Rattle.nf_num.specs.Sum.{sum_ℚ, delta}
@@ -30,7 +30,7 @@ use Rattle.nf_simplex.proofs.StageOf.{column_slack, column_artificial, column_ca
 use Rattle.nf_basis.specs.declared.col.Col.{Col}
 use Rattle.nf_basis.specs.Arising.{IsLoadBasis, LoadTerms, StateTerms, IsRestNumber, AreRestNumbers, rest_at, rest_row}
 use Rattle.nf_basis.specs.Arising.StateTerms.{rest as rest_term}
-use Rattle.nf_basis.specs.Arising.IsRestNumber.{bound as at_bound, path as as_path}
+use Rattle.nf_basis.specs.Arising.IsRestNumber.{bound as at_bound}
 use Rattle.nf_basis.specs.Arising.IsRowFactor.{rest as rest_factor}
 use Rattle.nf_basis.specs.Numbers.{slot_number, ListBasics}
 use Rattle.nf_basis.specs.Dense.{IsInverseOf, HasParts, bound_number, bound_at, spread_values}
@@ -38,6 +38,7 @@ use Rattle.nf_basis.specs.Loading.{with_places, IsLoaded}
 use Rattle.nf_basis.specs.Products.{AreProducts}
 use Rattle.nf_basis.proofs.Inverse.{slots_are, inverse_column, are_inverse, inverse_at, entries_arise}
 use Rattle.nf_basis.proofs.Pivoted.{values_by_one}
+use Rattle.nf_basis.proofs.RestNumbers.{zero_number}
 use Rattle.nf_basis.proofs.Spread.{value_off, values_stand}
 
 -- ---- as many basic columns, and all of one among those of the other
@@ -205,13 +206,8 @@ module _ (p : LinearProgram) (s : Standing) (ok : IsProblem p) (slots : List Col
         inside : r < (layout_of p).nodes + (layout_of p).sides
         inside = let a = few_rows in let b = ok.nodes_within in omega arith
 
-    -- 0 is a sum of no rests.
-    zero_number : (j : ℕ) → IsRestNumber p s j zero_ℚ
-    zero_number j = as_path zero_ℚ (λ i. rest_at p found i) (λ i l. (found, (λ q x. inr (found, are_found, refl)), refl))
-        record { negative = λ k. false; besides = false; chosen = λ k. false; is = sym (sum_zero (suc p.nodes) (λ k. zero_ℚ) (λ k x. refl)) }
-
     numbers : AreRestNumbers p s (bound_at p s)
-    numbers j l = bound_or_zero (IsRestNumber p s j) (place_at s j) ((stage_of p s).lower j) ((stage_of p s).upper j) (λ x b. at_bound x b) (zero_number j)
+    numbers j l = bound_or_zero (IsRestNumber p s j) (place_at s j) ((stage_of p s).lower j) ((stage_of p s).upper j) (λ x b. at_bound x b) (zero_number p s found are_found j)
 
     pub rest_arises : (i : ℕ) → i < rows_of p s → (c : Passed) → PassesIn (Is (rest_row p (bound_at p s) i)) c → PassesIn (LoadTerms p s) c
     rest_arises i l c x = in_load c (wider (Is (rest_row p (bound_at p s) i)) (StateTerms p s) c (λ row e. subst (StateTerms p s) (sym e) (rest_term i (bound_at p s) (let a = few_rows in omega arith) numbers)) x)

@@ -1,9 +1,10 @@
 //! The plain basis: the whole inverse of the basic columns.
 ghost use Rattle.std.specs.Prelude.{◌≡◌, ℕ, ◌<◌, length};
-ghost use Rattle.nf_model.specs.Program.{at};
-ghost use Rattle.nf_simplex.specs.Standing.{costs_of};
+ghost use Rattle.nf_model.specs.Program.{LinearProgram, at};
+ghost use Rattle.nf_simplex.specs.Standing.{costs_of, rows_of};
 ghost use Rattle.nf_basis.specs.Names.{phase_of};
 ghost use Rattle.nf_basis.specs.Kept.{IsPresent, IsStateOf};
+ghost use Rattle.nf_basis.specs.Dense.{HasParts, HoldsNumbers};
 ghost use Rattle.nf_basis.specs.Numbers.{in_slot, slot_number};
 
 use crate::basis::{Basis, RestoreFault};
@@ -42,6 +43,29 @@ fn value_in_slot(slots: &[Col], values: &[Frac], col: Col) -> Frac
     }
 }
 
+impl DenseBasis {
+    /// The basis of a state with these columns in its slots, the inverse of these columns and their values by slot.
+    /// `work` is room for a column.
+    pub fn of_parts(
+        state: State,
+        slots: Vec<Col>,
+        inverse: Inverse,
+        values: Vec<Frac>,
+        work: Vec<Frac>,
+    ) -> DenseBasis
+        ensures numbers { (p : LinearProgram) → IsStateOf p state → HasParts p state.standing slots.items inverse values.items → length work.items ≡ rows_of p state.standing → HoldsNumbers p result }
+        ensures standing { result.state.standing ≡ state.standing }
+    {
+        DenseBasis {
+            state,
+            slots,
+            values,
+            inverse,
+            work,
+        }
+    }
+}
+
 impl Basis for DenseBasis {
     ghost use Rattle.std.specs.Prelude.{ℕ, List, ◌≤◌};
     ghost use Rattle.nf_basis.specs.Dense.{HoldsNumbers, dense_unit, spread_values};
@@ -75,13 +99,7 @@ impl Basis for DenseBasis {
             inverse,
             work,
         } = load;
-        Ok(DenseBasis {
-            state,
-            slots,
-            values,
-            inverse,
-            work,
-        })
+        Ok(DenseBasis::of_parts(state, slots, inverse, values, work))
     }
 
     fn state(&self) -> &State {

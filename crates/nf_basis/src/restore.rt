@@ -20,7 +20,7 @@ ghost use Rattle.nf_basis.specs.Restoring.{IsFaultOf};
 use crate::basis::RestoreFault;
 use crate::col::{Col, Place};
 use crate::columns::weights_of;
-use crate::rest::rest;
+use crate::row_rest::rest;
 use crate::slots::slot_of;
 use crate::state::State;
 use crate::weights::Weights;

@@ -12,10 +12,10 @@ use nf_prob::Problem;
 use nf_sums::sub_products;
 use std::sync::ledger::Ledger;
 
-/// The rest of row i, where `number` gives the number of each given column.
+/// The rest of row i, where `number` gives the number of each given column. Numbers of rows and columns count from 1.
 ///
 /// `Passed` only where a product, the sum of those before and this product, or the difference passes 128 bits.
-pub(crate) fn rest<F: Fn(u32) -> Frac, L: Ledger>(
+pub fn rest<F: Fn(u32) -> Frac, L: Ledger>(
     p: &Problem,
     i: u32,
     number: F,

@@ -1,0 +1,2 @@
+mod Midway
+mod SideRests

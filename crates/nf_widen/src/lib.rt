@@ -1,0 +1,6 @@
+//! The start of stage two, and its dense basis made from a basis of stage one.
+#![tactic(auto)]
+
+mod start;
+
+pub use start::start_two;
