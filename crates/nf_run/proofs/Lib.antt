@@ -1,6 +1,6 @@
 mod Whole
 mod Opened
-mod PlanFacts
 mod RunFacts
-mod NumberFacts
+mod Answered
+mod Ended
 mod Listed

@@ -20,9 +20,18 @@ use Rattle.nf_run.specs.declared.event.RunFault.{RunFault}
 use Rattle.nf_run.specs.declared.event.RunFault.TheVariants as fault
 use Rattle.nf_run.specs.declared.line.HaltLine.{HaltLine}
 use Rattle.nf_run.specs.Runs.{AreExplained, Event, Follows, Gives, Lists, event_lines, listing_of, started}
-use Rattle.nf_run.specs.Steps.{HasListed, IsObeyFault, IsOpeningFault, Obeys, WritesPart}
-use Rattle.nf_run.specs.Stops.{ListsAll, ListsFront, StopsWith, is_standing}
-use Rattle.nf_run.specs.Verdicts.{Says}
+use Rattle.nf_io.specs.Held.{Held}
+use Rattle.nf_prob.specs.declared.cert.Cert.{Cert}
+use Rattle.nf_prob.specs.declared.cert.Cert.TheVariants as cert
+use Rattle.nf_prob.specs.Verdict.{HasLengths}
+use Rattle.std.specs.Prelude.{IfSome}
+use Rattle.nf_run.specs.declared.line.HaltLine.TheVariants as line
+use Rattle.nf_run.specs.Endings.{Ends, EndsPart, FailsToStore, HasProof, IsDue, IsEndFault, Stores, last_of}
+use Rattle.nf_run.specs.Steps.{At, HasListed, IsObeyFault, IsOpeningFault, KeepsProof, Obeys, WritesPart}
+use Rattle.nf_run.specs.Stops.{IsListing, ListsAll, ListsFront, ListsPart, StopsWith, is_standing}
+use Rattle.nf_run.specs.Verdicts.{Proves, Says, TellsVerdict}
+use Rattle.nf_verdict.specs.Certificates.{IsValid}
+use Rattle.nf_verdict.proofs.Valid.{valid_lengths}
 
 -- ---- what was written
 pub appends_nothing : (o : Option (List ℕ)) → Appends o o []
@@ -78,10 +87,10 @@ listing_more events e =
     flat_map-append (λ (x : Event). event_lines x.line x.after) events (e ∷ []) ∙ ap (λ v. listing_of events ++ v) (append-nil (event_lines e.line e.after))
 
 -- ---- listings
-pub lists_none : (p : LinearProgram) (o : SessionOptions) (s : Standing) → IsFirstState p s → Lists p o [] (started s) []
+abbrev pub lists_none : (p : LinearProgram) (o : SessionOptions) (s : Standing) → IsFirstState p s → Lists p o [] (started s) []
 lists_none p o s first = record { start = s; first = first; events = []; follows = (refl, refl); listed = refl; explained = tt }
 
-lists_run : (p : LinearProgram) (o : SessionOptions) (acts : List Statement) (m b : Point) (text : List ℕ) (line : HaltLine) → Lists p o acts m text → Gives p o m line b → Says p o b line
+abbrev lists_run : (p : LinearProgram) (o : SessionOptions) (acts : List Statement) (m b : Point) (text : List ℕ) (line : HaltLine) → Lists p o acts m text → Gives p o m line b → Says p o b line
     → Lists p o (acts ++ act.Run ∷ []) b (text ++ event_lines line b)
 lists_run p o acts m b text line l g says =
     let e : Event = record { before = m; line = line; after = b } in
@@ -94,7 +103,7 @@ lists_run p o acts m b text line l g says =
       explained = explained_more p o l.events e l.explained says;
     }
 
-lists_quit : (p : LinearProgram) (o : SessionOptions) (acts : List Statement) (m : Point) (text : List ℕ) → Lists p o acts m text → Lists p o (acts ++ act.Quit ∷ []) m text
+abbrev lists_quit : (p : LinearProgram) (o : SessionOptions) (acts : List Statement) (m : Point) (text : List ℕ) → Lists p o acts m text → Lists p o (acts ++ act.Quit ∷ []) m text
 lists_quit p o acts m text l = record {
   start = l.start;
   first = l.first;
@@ -104,11 +113,61 @@ lists_quit p o acts m text l = record {
   explained = l.explained;
 }
 
-listed_more : (p : LinearProgram) (o : SessionOptions) (acts : List Statement) (a : Statement) (m b : Point) (old mid new : Option (List ℕ)) → is_standing a ≡ true
+-- ---- the last verdict
+pub last_more : (events : List Event) (e : Event) → last_of (events ++ e ∷ []) ≡ Some e
+unfolding last_of
+last_more [] e = refl
+last_more (x ∷ []) e = refl
+last_more (x ∷ y ∷ events) e = last_more (y ∷ events) e
+
+pub proof_none : (p : LinearProgram) → HasProof p [] None
+unfolding last_of
+proof_none p = λ e q t. let none : None ≡ Some e = q in cc
+
+pub proof_more : (p : LinearProgram) (events : List Event) (e : Event) (proof : Option Cert) → KeepsProof p e.after.standing e.line proof → HasProof p (events ++ e ∷ []) proof
+proof_more p events e (Some c) k = (e, last_more events e, k)
+proof_more p events e None k = λ f q t.
+    let both : Some e ≡ Some f = sym (last_more events e) ∙ q in
+    let same : e ≡ f = cc in
+    k (subst (λ (x : Event). TellsVerdict x.line) (sym same) t)
+
+proves_valid : (p : LinearProgram) (c : Cert) (told : HaltLine) → Proves p c told → IsValid p c
+proves_valid p (cert.Best flows duals) (line.Optimal f) h = h.0
+proves_valid p (cert.Best flows duals) (line.Infeasible f) h = absurd h
+proves_valid p (cert.Best flows duals) (line.Unbounded f) h = absurd h
+proves_valid p (cert.Best flows duals) (line.Limit stage most) h = absurd h
+proves_valid p (cert.Best flows duals) (line.Pause stage) h = absurd h
+proves_valid p (cert.Best flows duals) line.Feasible h = absurd h
+proves_valid p (cert.Farkas duals) (line.Infeasible f) h = h.0
+proves_valid p (cert.Farkas duals) (line.Optimal f) h = absurd h
+proves_valid p (cert.Farkas duals) (line.Unbounded f) h = absurd h
+proves_valid p (cert.Farkas duals) (line.Limit stage most) h = absurd h
+proves_valid p (cert.Farkas duals) (line.Pause stage) h = absurd h
+proves_valid p (cert.Farkas duals) line.Feasible h = absurd h
+proves_valid p (cert.Ray flows ray) (line.Unbounded f) h = h.0
+proves_valid p (cert.Ray flows ray) (line.Optimal f) h = absurd h
+proves_valid p (cert.Ray flows ray) (line.Infeasible f) h = absurd h
+proves_valid p (cert.Ray flows ray) (line.Limit stage most) h = absurd h
+proves_valid p (cert.Ray flows ray) (line.Pause stage) h = absurd h
+proves_valid p (cert.Ray flows ray) line.Feasible h = absurd h
+
+pub proof_lengths : (p : LinearProgram) (events : List Event) (proof : Option Cert) → HasProof p events proof → IfSome proof (HasLengths p)
+proof_lengths p events (Some c) h = valid_lengths p c (proves_valid p c h.0.line h.2.1.proves)
+proof_lengths p events None h = tt
+
+-- ---- listings with the last verdict
+pub listed_none : (p : LinearProgram) (o : SessionOptions) (s : Standing) (old : Option (List ℕ)) → IsFirstState p s → HasListed p o [] (record { point = started s; proof = None }) old old
+listed_none p o s old first = ([], lists_none p o s first, proof_none p, appends_nothing old)
+
+listed_more : (p : LinearProgram) (o : SessionOptions) (acts : List Statement) (a : Statement) (m b : At) (old mid new : Option (List ℕ)) → is_standing a ≡ true
     → HasListed p o acts m old mid → Obeys p o a m b mid new → HasListed p o (acts ++ a ∷ []) b old new
-listed_more p o acts act.Run m b old mid new e h (line, g, says, w) =
-    (h.0 ++ event_lines line b, lists_run p o acts m b h.0 line h.1 g says, appends-more old mid new h.0 (event_lines line b) h.2 w)
-listed_more p o acts act.Quit m b old mid new e h (same, still) = rw (same, still) (h.0, lists_quit p o acts m h.0 h.1, h.2)
+listed_more p o acts act.Run m b old mid new e h (line, g, says, keeps, w) = (
+  h.0 ++ event_lines line b.point,
+  lists_run p o acts m.point b.point h.0 line h.1 g says,
+  proof_more p h.1.events (record { before = m.point; line = line; after = b.point }) b.proof keeps,
+  appends-more old mid new h.0 (event_lines line b.point) h.3 w,
+)
+listed_more p o acts act.Quit m b old mid new e h (same, still) = rw (same, still) (h.0, lists_quit p o acts m.point h.0 h.1, h.2, h.3)
 listed_more p o acts act.Pivot m b old mid new e h k = cc e
 listed_more p o acts (act.Reset items) m b old mid new e h k = cc e
 listed_more p o acts (act.Print items) m b old mid new e h k = cc e
@@ -133,48 +192,67 @@ stands_at acts i a all h e = ap is_standing e ∙ test (is_standing (get_or acts
     test false q = let k = list_all_at is_standing acts i a h q in cc
 
 -- the loop's next statement
-pub listed_next : (p : LinearProgram) (o : SessionOptions) (acts : List Statement) (i : ℕ) (a : Statement) (m b : Point) (old mid new : Option (List ℕ)) → list_all is_standing acts ≡ true
+pub listed_next : (p : LinearProgram) (o : SessionOptions) (acts : List Statement) (i : ℕ) (a : Statement) (m b : At) (old mid new : Option (List ℕ)) → list_all is_standing acts ≡ true
     → i < length acts → a ≡ get_or acts i a → HasListed p o (take i acts) m old mid → Obeys p o a m b mid new → HasListed p o (take (i + 1) acts) b old new
 listed_next p o acts i a m b old mid new all h e l k =
     subst (λ v. HasListed p o v b old new) (sym (take_next acts i a h e)) (listed_more p o (take i acts) a m b old mid new (stands_at acts i a all h e) l k)
 
 -- all statements are obeyed
-pub listed_all : (p : LinearProgram) (o : SessionOptions) (acts : List Statement) (i : ℕ) (b : Point) (old new : Option (List ℕ)) → length acts ≤ i → i ≤ length acts → HasListed p o (take i acts) b old new → ListsAll p o acts old new
-listed_all p o acts i b old new h k l =
+pub listed_whole : (p : LinearProgram) (o : SessionOptions) (acts : List Statement) (i : ℕ) (b : At) (old new : Option (List ℕ)) → length acts ≤ i → i ≤ length acts → HasListed p o (take i acts) b old new → HasListed p o acts b old new
+listed_whole p o acts i b old new h k l =
     let e : i ≡ length acts = omega arith in
-    let t : take i acts ≡ acts = ap (λ n. take n acts) e ∙ take-length acts in
-    let w : Lists p o acts b l.0 = subst (λ v. Lists p o v b l.0) t l.1 in
-    (l.0, (b, w), l.2)
+    subst (λ v. HasListed p o v b old new) (ap (λ n. take n acts) e ∙ take-length acts) l
 
--- ---- where it stops
 later_rose : (a b c : ℕ) → a ≤ b → Rose b c → Rose a c
 later_rose a b c h k = omega (arith, h, k)
 
-writes_front : (p : LinearProgram) (o : SessionOptions) (acts : List Statement) (i : ℕ) (m : Point) (old mid new : Option (List ℕ)) → i < length acts → act.Run ≡ get_or acts i act.Run
-    → HasListed p o (take i acts) m old mid → WritesPart p o m mid new → ListsFront p o acts old new
-writes_front p o acts i m old mid new h e l (line, b, g, says, w) =
+-- ---- the end
+module _ (p : LinearProgram) (o : SessionOptions) (acts : List Statement) (certout : Option (List ℕ)) (b : At) (old mid : Option (List ℕ)) (l : HasListed p o acts b old mid) where
+  listing : (stored : Option (List ℕ)) (text : List ℕ) → IsDue p certout b.proof stored text → IsListing p o acts certout stored (l.0 ++ text)
+  listing stored text due = record { last = b.point; told = l.0; lists = l.1; proof = b.proof; proved = l.2; ending = text; due = due; whole = refl }
+
+  pub ends_all : (new : Option (List ℕ)) (held now : Option Held) → Ends p certout b.proof mid new held now → ListsAll p o acts certout old new held now
+  ends_all new held now (stored, text, due, w, s) = (stored, l.0 ++ text, listing stored text due, appends-more old mid new l.0 text l.3 w, s)
+
+  ends_part : (new : Option (List ℕ)) (held now : Option Held) → EndsPart p certout b.proof mid new held now → ListsPart p o acts certout old new held now
+  ends_part new held now (stored, text, due, w, s) = (stored, l.0 ++ text, listing stored text due, put_after old mid new l.0 text l.3 w, s)
+
+  pub end_fails : (new : Option (List ℕ)) (before then after : ℕ) (held now : Option Held) (stores stores_after : ℕ) (f : RunFault) → before ≤ then
+      → IsEndFault p certout b.proof mid new then after held now stores stores_after f → StopsWith p o acts certout old new before after held now stores stores_after f
+  end_fails new before then after held now stores stores_after (fault.Range stage pivots passed) later h = absurd h
+  end_fails new before then after held now stores stores_after fault.Write later (inl h) = inl (later_rose before then after later h.0, inr (ends_part new held now h.1))
+  end_fails new before then after held now stores stores_after fault.Write later (inr h) =
+      inr (h.0, record { last = b.point; text = l.0; lists = l.1; proof = b.proof; proved = l.2; listed = subst (λ v. Appends old v l.0) (sym h.1) l.3; fails = h.2 })
+  end_fails new before then after held now stores stores_after fault.NoMemory later (inl h) =
+      inl (l.0, inr (acts, [], b.point, sym (append-nil acts), l.1), put_whole old new l.0 (subst (λ v. Appends old v l.0) (sym h.0) l.3), h.1)
+  end_fails new before then after held now stores stores_after fault.NoMemory later (inr h) = inr (ends_part new held now h)
+
+-- ---- where a statement stops
+writes_front : (p : LinearProgram) (o : SessionOptions) (acts : List Statement) (i : ℕ) (m : At) (old mid new : Option (List ℕ)) (held : Option Held) → i < length acts → act.Run ≡ get_or acts i act.Run
+    → HasListed p o (take i acts) m old mid → WritesPart p o m.point mid new → ListsFront p o acts old new held held
+writes_front p o acts i m old mid new held h e l (line, b, g, says, w) =
     let now : Lists p o (take (i + 1) acts) b (l.0 ++ event_lines line b) =
-    subst (λ v. Lists p o v b (l.0 ++ event_lines line b)) (sym (take_next acts i act.Run h e)) (lists_run p o (take i acts) m b l.0 line l.1 g says) in
-    (l.0 ++ event_lines line b, inr (take (i + 1) acts, drop (i + 1) acts, b, split_after acts (i + 1), now), put_after old mid new l.0 (event_lines line b) l.2 w)
+    subst (λ v. Lists p o v b (l.0 ++ event_lines line b)) (sym (take_next acts i act.Run h e)) (lists_run p o (take i acts) m.point b l.0 line l.1 g says) in
+    (l.0 ++ event_lines line b, inr (take (i + 1) acts, drop (i + 1) acts, b, split_after acts (i + 1), now), put_after old mid new l.0 (event_lines line b) l.3 w, refl)
 
 -- the statement that fails
-pub stops_at : (p : LinearProgram) (o : SessionOptions) (acts : List Statement) (i : ℕ) (a : Statement) (m : Point) (old mid new : Option (List ℕ)) (before then after : ℕ) (f : RunFault)
-    → i < length acts → a ≡ get_or acts i a → before ≤ then → HasListed p o (take i acts) m old mid → IsObeyFault p o a m mid new then after f → StopsWith p o acts old new before after f
-stops_at p o acts i act.Run m old mid new before then after (fault.Range stage pivots passed) h e later l k =
-    (k.0, l.0, inr (take i acts, drop (i + 1) acts, m, split_at_place acts i act.Run h e, l.1, k.1), subst (λ v. Appends old v l.0) (sym k.2) l.2)
-stops_at p o acts i act.Run m old mid new before then after fault.Write h e later l k = (later_rose before then after later k.0, writes_front p o acts i m old mid new h e l k.1)
-stops_at p o acts i act.Run m old mid new before then after fault.NoMemory h e later l (inl k) =
-    (l.0, inr (take i acts, drop i acts, m, split_after acts i, l.1), put_whole old new l.0 (subst (λ v. Appends old v l.0) (sym k) l.2))
-stops_at p o acts i act.Run m old mid new before then after fault.NoMemory h e later l (inr k) = writes_front p o acts i m old mid new h e l k
-stops_at p o acts i act.Quit m old mid new before then after f h e later l k = absurd k
-stops_at p o acts i act.Pivot m old mid new before then after f h e later l k = absurd k
-stops_at p o acts i (act.Reset items) m old mid new before then after f h e later l k = absurd k
-stops_at p o acts i (act.Print items) m old mid new before then after f h e later l k = absurd k
-stops_at p o acts i (act.Show items) m old mid new before then after f h e later l k = absurd k
-stops_at p o acts i (act.Save items) m old mid new before then after f h e later l k = absurd k
+pub stops_at : (p : LinearProgram) (o : SessionOptions) (acts : List Statement) (certout : Option (List ℕ)) (i : ℕ) (a : Statement) (m : At) (old mid new : Option (List ℕ)) (before then after : ℕ) (held : Option Held) (stores : ℕ) (f : RunFault)
+    → i < length acts → a ≡ get_or acts i a → before ≤ then → HasListed p o (take i acts) m old mid → IsObeyFault p o a m.point mid new then after f → StopsWith p o acts certout old new before after held held stores stores f
+stops_at p o acts certout i act.Run m old mid new before then after held stores (fault.Range stage pivots passed) h e later l k =
+    (k.0, l.0, inr (take i acts, drop (i + 1) acts, m.point, split_at_place acts i act.Run h e, l.1, k.1), subst (λ v. Appends old v l.0) (sym k.2) l.3, refl)
+stops_at p o acts certout i act.Run m old mid new before then after held stores fault.Write h e later l k = inl (later_rose before then after later k.0, inl (writes_front p o acts i m old mid new held h e l k.1))
+stops_at p o acts certout i act.Run m old mid new before then after held stores fault.NoMemory h e later l (inl k) =
+    inl (l.0, inr (take i acts, drop i acts, m.point, split_after acts i, l.1), put_whole old new l.0 (subst (λ v. Appends old v l.0) (sym k) l.3), refl)
+stops_at p o acts certout i act.Run m old mid new before then after held stores fault.NoMemory h e later l (inr k) = inl (writes_front p o acts i m old mid new held h e l k)
+stops_at p o acts certout i act.Quit m old mid new before then after held stores f h e later l k = absurd k
+stops_at p o acts certout i act.Pivot m old mid new before then after held stores f h e later l k = absurd k
+stops_at p o acts certout i (act.Reset items) m old mid new before then after held stores f h e later l k = absurd k
+stops_at p o acts certout i (act.Print items) m old mid new before then after held stores f h e later l k = absurd k
+stops_at p o acts certout i (act.Show items) m old mid new before then after held stores f h e later l k = absurd k
+stops_at p o acts certout i (act.Save items) m old mid new before then after held stores f h e later l k = absurd k
 
 -- the opening fails
-pub stops_opening : (p : LinearProgram) (o : SessionOptions) (acts : List Statement) (old : Option (List ℕ)) (n : ℕ) (f : RunFault) → IsOpeningFault p f → StopsWith p o acts old old n n f
-stops_opening p o acts old n (fault.Range stage pivots passed) h = (h.0, [], inl (refl, h.1, h.2), appends_nothing old)
-stops_opening p o acts old n fault.Write h = absurd h
-stops_opening p o acts old n fault.NoMemory h = ([], inl refl, put_whole old old [] (appends_nothing old))
+pub stops_opening : (p : LinearProgram) (o : SessionOptions) (acts : List Statement) (certout old : Option (List ℕ)) (n : ℕ) (held : Option Held) (stores : ℕ) (f : RunFault) → IsOpeningFault p f → StopsWith p o acts certout old old n n held held stores stores f
+stops_opening p o acts certout old n held stores (fault.Range stage pivots passed) h = (h.0, [], inl (refl, h.1, h.2), appends_nothing old, refl)
+stops_opening p o acts certout old n held stores fault.Write h = absurd h
+stops_opening p o acts certout old n held stores fault.NoMemory h = inl ([], inl refl, put_whole old old [] (appends_nothing old), refl)

@@ -2,5 +2,6 @@ pub mod Lines
 pub mod Setting
 pub mod Verdicts
 pub mod Runs
+pub mod Endings
 pub mod Stops
 pub mod Steps

@@ -2,15 +2,12 @@
 -- The listing of a run is the lines of its events, and nothing else.
 use Rattle.std.specs.Prelude.{◌≡◌, ◌⊎◌, ◌++◌, ℕ, List, [], ◌∷◌, flat_map}
 use Rattle.std.specs.List.{AllByRecursion}
-use Rattle.nf_num.specs.Rational.{ℚ}
 use Rattle.nf_model.specs.Program.{LinearProgram}
 use Rattle.nf_sums.specs.Terms.{PassesIn}
 use Rattle.nf_frac.specs.declared.passed.Passed.{Passed}
 use Rattle.nf_simplex.specs.Standing.{Standing}
-use Rattle.nf_simplex.specs.Moves.{HasEndedOptimalIn, IsFirstState}
-use Rattle.nf_simplex.specs.Verdicts.{AreGivenValues, ArePrintedDuals}
-use Rattle.nf_basis.specs.Arising.{LoadTerms, StartTerms}
-use Rattle.nf_prob.specs.Arising.{BestTerms}
+use Rattle.nf_simplex.specs.Moves.{IsFirstState}
+use Rattle.nf_basis.specs.Arising.{StateTerms}
 use Rattle.nf_program.specs.declared.program.SessionOptions.{SessionOptions}
 use Rattle.nf_program.specs.declared.program.Statement.{Statement}
 use Rattle.nf_program.specs.declared.program.Statement.TheVariants as act
@@ -80,35 +77,18 @@ pub record Lists (p : LinearProgram) (o : SessionOptions) (acts : List Statement
   pub listed : text ≡ listing_of events
   pub explained : AreExplained p o events
 
--- The text is the listing of the whole program.
-abbrev pub IsListing : LinearProgram → SessionOptions → List Statement → List ℕ → Type 0
-IsListing p o acts text = (b : Point) × Lists p o acts b text
-
 -- The text is the listing of the first statements, or of none.
 abbrev pub IsFront : LinearProgram → SessionOptions → List Statement → List ℕ → Type 0
 IsFront p o acts text = (text ≡ []) ⊎ ((done rest : List Statement) × (b : Point) × (acts ≡ done ++ rest) × Lists p o done b text)
 
 -- ---- operations that pass 128 bits
--- While the first state is made, or its basis: in the rest of a node row, or in a basis of the state's load.
+-- While the first state is made, or its basis: the operation arises from the first state.
 abbrev pub PassesAtStart : LinearProgram → Passed → Type 0
-PassesAtStart p passed = PassesIn (StartTerms p) passed ⊎ ((start : Standing) × IsFirstState p start × PassesIn (LoadTerms p start) passed)
+PassesAtStart p passed = (start : Standing) × IsFirstState p start × PassesIn (StateTerms p start) passed
 
--- In the check of the plan of a state that has ended optimal, to which a RUN from a leads with so many pivots.
-pub record PassesInCheck (p : LinearProgram) (o : SessionOptions) (a : Point) (pivots : ℕ) (passed : Passed) : Type 0 where
-  pub at : Point
-  pub halt : Halt
-  pub runs : Runs p o a halt at
-  pub count : at.pivots ≡ pivots
-  pub ended : HasEndedOptimalIn p at.standing
-  pub flows : List ℚ
-  pub duals : List ℚ
-  pub are_flows : AreGivenValues p at.standing flows
-  pub are_duals : ArePrintedDuals p at.standing duals
-  pub passes : PassesIn (BestTerms p flows duals) passed
-
--- In a RUN from a, at so many pivots: in the state to which they lead, or in the check of its plan.
+-- In a RUN from a: the operation arises from the state to which its steps lead with so many pivots.
 abbrev pub PassesInRun : LinearProgram → SessionOptions → Point → ℕ → Passed → Type 0
-PassesInRun p o a pivots passed = PassesAt p (rule_for o.pricetype1) a pivots passed ⊎ PassesInCheck p o a pivots passed
+PassesInRun p o a pivots passed = PassesAt p (rule_for o.pricetype1) a pivots passed
 
 -- The text is the listing of the statements before the one in which an operation passes at so many pivots, or is empty
 -- where it passes at the start.

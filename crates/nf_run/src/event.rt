@@ -10,7 +10,7 @@ pub enum RunFault {
         pivots: u64,
         passed: Passed,
     },
-    /// The listing failed at a write.
+    /// The listing failed at a write, or the library at a store.
     Write,
     /// Memory ran out.
     NoMemory,

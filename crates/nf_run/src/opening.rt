@@ -41,7 +41,7 @@ fn fault_of(fault: &RestoreFault) -> RunFault
 /// The basis of the first state of stage one.
 ///
 /// The basic columns of that state are the artificials, which are independent, so no other fault comes than want of
-/// memory or an operation that passes 128 bits.
+/// memory or an operation that passes 128 bits, which then arises from that state.
 pub(crate) fn open<B: Basis, L: Ledger>(
     alloc: Global,
     p: &Problem,
@@ -53,6 +53,8 @@ pub(crate) fn open<B: Basis, L: Ledger>(
     ensures feasible { IfOk result (λ b. IsFeasibleState p.now (B.standing b)) }
     ensures fault { IfErr result (IsOpeningFault p.now) }
 {
+    // a problem of nodes and side rows has a first state
+    let _rows = p.rows();
     let state = match start_one(alloc, p, steps) {
         Ok(state) => state,
         Err(StartFault::Passed(passed)) => return Err(at_start(passed)),

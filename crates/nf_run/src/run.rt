@@ -1,33 +1,34 @@
 //! One RUN.
-ghost use Rattle.std.specs.Prelude.{◌≡◌, ℕ, IfOk, IfErr};
-ghost use Rattle.nf_price.specs.declared.rule.Rule.{Rule};
-ghost use Rattle.nf_engine.specs.Steps.{HasNoBoundAt};
+ghost use Rattle.std.specs.Prelude.{◌≡◌, IfOk, IfErr};
 ghost use Rattle.nf_simplex.specs.Standing.{IsFeasibleState};
+ghost use Rattle.nf_verdict.specs.declared.ended.Ended.{Ended as End};
+ghost use Rattle.nf_verdict.specs.Certificates.{IsCertFault};
 ghost use Rattle.nf_run.specs.Setting.{IsPlain, pauses_of, rule_for};
 ghost use Rattle.nf_run.specs.Runs.{Gives, counts_at};
-ghost use Rattle.nf_run.specs.Steps.{IsHaltIn, IsNumberFault, IsRunFault, Shows, number_fault, point_at};
-ghost use Rattle.nf_run.specs.Verdicts.{IsRateOf, Says};
+ghost use Rattle.nf_run.specs.Steps.{IsHaltIn, IsRunFault, KeepsProof, Shows, number_fault, point_at};
+ghost use Rattle.nf_run.specs.Verdicts.{MeansEnd, Says};
 
 use crate::event::RunFault;
 use crate::line::{Counts, HaltLine};
-use crate::number::{gap, rate};
-use crate::plan::{NumberFault, cost};
-use nf_basis::{Basis, Col};
+use crate::verdict::verdict;
+use nf_basis::Basis;
 use nf_engine::{Engine, Halt, Moved, Pauses};
-use nf_frac::{Frac, Passed, Steps};
+use nf_frac::{Passed, Steps};
 use nf_price::Rule;
-use nf_prob::Problem;
+use nf_prob::{Cert, Problem};
 use nf_stmt::{PriceType, SessionOptions};
+use nf_verdict::{CertOfFault, Ended};
 use std::alloc::Global;
 use std::sync::ledger::Ledger;
 
-/// Where a run stands between its statements: the basis of its state, the pivots of the stage, and the number of the
-/// column that was picked last.
+/// Where a run stands between its statements: the basis of its state, the pivots of the stage, the number of the column
+/// that was picked last, and the certificate of the last halt, where this was a verdict.
 #[derive(Drop)]
 pub(crate) struct Session<B: Basis> {
     pub(crate) basis: B,
     pub(crate) pivots: u64,
     pub(crate) cursor: u32,
+    pub(crate) proof: Option<Cert>,
 }
 
 impl<B: Basis> Session<B> {
@@ -64,12 +65,12 @@ fn pauses_of(options: &SessionOptions) -> Pauses
 }
 
 // The fault at so many pivots.
-fn at_pivots(pivots: u64, fault: NumberFault) -> RunFault
+fn at_pivots(pivots: u64, fault: CertOfFault) -> RunFault
     ensures { result ≡ number_fault pivots fault }
 {
     match fault {
-        NumberFault::Passed(passed) => range(pivots, passed),
-        NumberFault::NoMemory => RunFault::NoMemory,
+        CertOfFault::Passed(passed) => range(pivots, passed),
+        CertOfFault::NoMemory => RunFault::NoMemory,
     }
 }
 
@@ -84,56 +85,20 @@ fn range(pivots: u64, passed: Passed) -> RunFault
     }
 }
 
-// The rate of the column at which the state has ended.
-fn rate_of<B: Basis, L: Ledger>(
-    alloc: Global,
-    p: &Problem,
-    basis: &mut B,
-    column: Col,
-    steps: &mut Steps<L>,
-) -> Result<Frac, NumberFault>
-    requires plain { IsPlain p.now }
-    requires numbers { B.HasNumbers p.now basis.old }
-    requires ended { (rule : Rule) × (cursor : ℕ) × HasNoBoundAt p.now rule (B.standing basis.old) cursor column }
-    ensures numbers { IfOk result (λ _. B.HasNumbers p.now basis.new) }
-    ensures standing { IfOk result (λ _. B.standing basis.new ≡ B.standing basis.old) }
-    ensures rate { IfOk result (IsRateOf p.now (B.standing basis.old) column) }
-    ensures fault { IfErr result (IsNumberFault p.now (B.standing basis.old)) }
+// How a state has ended, where the engine says so.
+fn end_of(moved: Moved) -> Ended
+    requires ended { (how : End) × MeansEnd moved how }
+    ensures means { MeansEnd moved result }
 {
-    let mut two = vec![in alloc; Frac::zero(); p.rows() as usize]?;
-    let rate = rate(p, basis, column, two.as_mut_slice(), steps)?;
-    Ok(rate)
-}
-
-// The line of a state that has ended.
-fn verdict<B: Basis, L: Ledger>(
-    alloc: Global,
-    p: &Problem,
-    options: &SessionOptions,
-    basis: &mut B,
-    ended: Moved,
-    steps: &mut Steps<L>,
-) -> Result<HaltLine, NumberFault>
-    requires plain { IsPlain p.now }
-    requires numbers { B.HasNumbers p.now basis.old }
-    requires feasible { IsFeasibleState p.now (B.standing basis.old) }
-    requires halt { IsHaltIn p.now options.now (B.standing basis.old) (Halt.Ended ended) }
-    ensures numbers { IfOk result (λ _. B.HasNumbers p.now basis.new) }
-    ensures standing { IfOk result (λ _. B.standing basis.new ≡ B.standing basis.old) }
-    ensures shows { IfOk result (Shows p.now options.now (B.standing basis.old) (Halt.Ended ended)) }
-    ensures fault { IfErr result (IsNumberFault p.now (B.standing basis.old)) }
-{
-    match ended {
-        Moved::Best => Ok(HaltLine::Optimal(cost(alloc, p, basis, steps)?)),
-        Moved::NoFlow => Ok(HaltLine::Infeasible(gap(p, basis, steps)?)),
-        Moved::NoBound(column) => {
-            Ok(HaltLine::Unbounded(rate_of(alloc, p, basis, column, steps)?))
-        }
+    match moved {
+        Moved::Best => Ended::Best,
+        Moved::NoFlow => Ended::NoFlow,
+        Moved::NoBound(column) => Ended::NoBound(column),
         Moved::Pivoted { .. } | Moved::Flipped(_) => unreachable!(),
     }
 }
 
-// The line of a halt at a state.
+// The line of a halt at a state, and the certificate of a verdict.
 fn line_of<B: Basis, L: Ledger>(
     alloc: Global,
     p: &Problem,
@@ -141,29 +106,35 @@ fn line_of<B: Basis, L: Ledger>(
     basis: &mut B,
     halt: Halt,
     steps: &mut Steps<L>,
-) -> Result<HaltLine, NumberFault>
+) -> Result<(HaltLine, Option<Cert>), CertOfFault>
     requires plain { IsPlain p.now }
     requires numbers { B.HasNumbers p.now basis.old }
     requires feasible { IsFeasibleState p.now (B.standing basis.old) }
     requires halt { IsHaltIn p.now options.now (B.standing basis.old) halt }
     ensures numbers { IfOk result (λ _. B.HasNumbers p.now basis.new) }
     ensures standing { IfOk result (λ _. B.standing basis.new ≡ B.standing basis.old) }
-    ensures shows { IfOk result (Shows p.now options.now (B.standing basis.old) halt) }
-    ensures fault { IfErr result (IsNumberFault p.now (B.standing basis.old)) }
+    ensures shows { IfOk result (λ r. Shows p.now options.now (B.standing basis.old) halt r.0 r.1) }
+    ensures fault { IfErr result (IsCertFault p.now (B.standing basis.old)) }
 {
     match halt {
-        Halt::Ended(ended) => verdict(alloc, p, options, basis, ended, steps),
-        Halt::Limit => Ok(HaltLine::Limit {
-            stage: 1,
-            most: options.maxit1,
-        }),
-        Halt::Pause => Ok(HaltLine::Pause(1)),
-        Halt::Feasible => Ok(HaltLine::Feasible),
+        Halt::Ended(moved) => {
+            let (line, cert) = verdict(alloc, p, basis, end_of(moved), steps)?;
+            Ok((line, Some(cert)))
+        }
+        Halt::Limit => Ok((
+            HaltLine::Limit {
+                stage: 1,
+                most: options.maxit1,
+            },
+            None,
+        )),
+        Halt::Pause => Ok((HaltLine::Pause(1), None)),
+        Halt::Feasible => Ok((HaltLine::Feasible, None)),
     }
 }
 
 /// Goes on from where the session stands to the halt that is due, and answers its line and where the session then
-/// stands.
+/// stands, with the certificate of a verdict.
 ///
 /// The pivots are steps of the engine under the program's rule. An operation that passes 128 bits is told with the
 /// pivots that were made before it.
@@ -180,6 +151,7 @@ pub(crate) fn run<B: Basis, L: Ledger>(
     ensures numbers { IfOk result (λ r. B.HasNumbers p.now r.1.basis) }
     ensures feasible { IfOk result (λ r. IsFeasibleState p.now (B.standing r.1.basis)) }
     ensures gives { IfOk result (λ r. Gives p.now options.now (point_at B.standing session) r.0 (point_at B.standing r.1)) }
+    ensures proof { IfOk result (λ r. KeepsProof p.now (B.standing r.1.basis) r.0 r.1.proof) }
     ensures says { IfOk result (λ r. Says p.now options.now (point_at B.standing r.1) r.0) }
     ensures fault { IfErr result (IsRunFault p.now options.now (point_at B.standing session)) }
 {
@@ -187,6 +159,7 @@ pub(crate) fn run<B: Basis, L: Ledger>(
         basis,
         pivots,
         cursor,
+        proof: _,
     } = session;
     let mut engine = match Engine::new(alloc, p, basis, pivots, cursor) {
         Ok(engine) => engine,
@@ -201,12 +174,13 @@ pub(crate) fn run<B: Basis, L: Ledger>(
     let (pivots, cursor) = (engine.pivots(), engine.cursor());
     let mut basis = engine.into_basis();
     match line_of(alloc, p, options, &mut basis, halt, steps) {
-        Ok(line) => Ok((
+        Ok((line, proof)) => Ok((
             line,
             Session {
                 basis,
                 pivots,
                 cursor,
+                proof,
             },
         )),
         Err(fault) => Err(at_pivots(pivots, fault)),

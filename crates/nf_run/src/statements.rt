@@ -1,18 +1,20 @@
 //! The statements of a program, one by one.
-ghost use Rattle.std.specs.Prelude.{true, ◌≡◌, ◌<◌, ◌≤◌, OnOk, IfOk, IfErr};
+ghost use Rattle.std.specs.Option.{option_copied};
+ghost use Rattle.std.specs.Prelude.{true, ◌≡◌, ◌<◌, ◌≤◌, ℕ, List, OnOk, IfOk, IfErr};
 ghost use Rattle.nf_simplex.specs.StageOf.{StageOne};
 ghost use Rattle.nf_simplex.specs.Standing.{IsFeasibleState};
 ghost use Rattle.nf_run.specs.Setting.{IsPlain};
-ghost use Rattle.nf_run.specs.Steps.{IsObeyFault, Obeys, point_at};
+ghost use Rattle.nf_run.specs.Steps.{IsObeyFault, Obeys, session_at};
 ghost use Rattle.nf_run.specs.Stops.{ListsAll, StopsWith, are_standing, is_standing};
 
+use crate::ending::end;
 use crate::event::RunFault;
 use crate::line::halt_text;
 use crate::opening::open;
 use crate::run::{Session, run};
 use nf_basis::{Basis, DenseBasis};
 use nf_frac::Steps;
-use nf_io::{PutFault, Sink, write_all};
+use nf_io::{Library, PutFault, Sink, write_all};
 use nf_prob::Problem;
 use nf_stmt::{SessionOptions, Statement};
 use std::alloc::Global;
@@ -20,33 +22,52 @@ use std::marker::Brand;
 use std::sync::ledger::{Blank, Ledger};
 
 /// Obeys the statements of a program on a problem, from the first state of stage one, and writes the listing statement
-/// by statement. Today they are RUN, and QUIT, which is the last one and writes nothing.
+/// by statement. Today they are RUN, and QUIT, which is the last one. At the end, whether there is a QUIT or not, the
+/// certificate of the last halt is stored under the name `certout`, where the program gives one.
 ///
 /// A RUN makes one step of the simplex method after another until a halt is due, and writes it with the pivots so far:
-/// `OPTIMAL` with the cost of the flows, once the check of these flows and of the duals that prove them has said yes;
-/// `INFEASIBLE` with the sum of the artificials; `UNBOUNDED` with the rate of the column that nothing stops; or the
-/// limit or the pause that the program has set. The problem is a network without side rows, of at most 1,000 nodes.
+/// `OPTIMAL` with the cost of the flows, `INFEASIBLE` with the gap or `UNBOUNDED` with the rate, once the certificate
+/// that proves it has been checked; or the limit or the pause that the program has set. The problem is a network without
+/// side rows, of at most 1,000 nodes.
 ///
 /// `Range` comes only where an operation passes 128 bits that arises from the state of this run after so many pivots;
-/// `Write` only where the sink's faults rose, and then a front of the listing is written; `NoMemory` likewise.
-pub fn run_program<K: Sink>(
+/// `Write` only where the sink's faults rose, and then a front of the listing is written, or where the failed stores
+/// rose, and then the listing of all statements is; `NoMemory` like the first. No name but `certout` is changed.
+pub fn run_program<K: Sink, D: Library>(
     alloc: Global,
     p: &Problem,
     options: &SessionOptions,
     acts: &[Statement],
+    certout: Option<&str>,
     listing: &mut K,
+    library: &mut D,
 ) -> Result<(), RunFault>
     requires plain { IsPlain p.now }
     requires acts { are_standing acts.now ≡ true }
     ensures later { K.faults listing.old ≤ K.faults listing.new }
     ensures quiet { K.quiet listing.new ≡ K.quiet listing.old }
     ensures calm { K.quiet listing.old ≡ true → K.faults listing.new ≡ K.faults listing.old }
-    ensures ok { OnOk result (ListsAll p.now options.now acts.now (K.written listing.old) (K.written listing.new)) }
-    ensures stops { IfErr result (StopsWith p.now options.now acts.now (K.written listing.old) (K.written listing.new) (K.faults listing.old) (K.faults listing.new)) }
+    ensures stores { D.store_faults library.old ≤ D.store_faults library.new }
+    ensures fetches { D.fetch_faults library.new ≡ D.fetch_faults library.old }
+    ensures misses { (q : List ℕ) → D.misses library.old q ≤ D.misses library.new q }
+    ensures quiet_fetches { D.quiet_fetches library.new ≡ D.quiet_fetches library.old }
+    ensures quiet_stores { D.quiet_stores library.new ≡ D.quiet_stores library.old }
+    ensures calm_stores { D.quiet_stores library.old ≡ true → D.store_faults library.new ≡ D.store_faults library.old }
+    ensures ok { OnOk result (ListsAll p.now options.now acts.now (option_copied certout.entry) (K.written listing.old) (K.written listing.new) (D.held library.old) (D.held library.new)) }
+    ensures stops { IfErr result (StopsWith p.now options.now acts.now (option_copied certout.entry) (K.written listing.old) (K.written listing.new) (K.faults listing.old) (K.faults listing.new) (D.held library.old) (D.held library.new) (D.store_faults library.old) (D.store_faults library.new)) }
 {
     // the nodes are among the rows, so the dense basis takes them
     let _rows = p.rows();
-    obey_all::<DenseBasis, Brand, K>(alloc, p, options, acts, listing, Blank::new(1))
+    obey_all::<DenseBasis, Brand, K, D>(
+        alloc,
+        p,
+        options,
+        acts,
+        certout,
+        listing,
+        library,
+        Blank::new(1),
+    )
 }
 
 /// Whether all statements are such as stand today.
@@ -63,12 +84,14 @@ fn is_standing(act: &Statement) -> bool
 }
 
 // The same over any basis. The blank is one of the ledger, with a part; nobody reads the count of steps.
-fn obey_all<B: Basis, L: Ledger, K: Sink>(
+fn obey_all<B: Basis, L: Ledger, K: Sink, D: Library>(
     alloc: Global,
     p: &Problem,
     options: &SessionOptions,
     acts: &[Statement],
+    certout: Option<&str>,
     listing: &mut K,
+    library: &mut D,
     blank: Blank,
 ) -> Result<(), RunFault>
     requires takes { B.Takes p.now StageOne }
@@ -80,8 +103,14 @@ fn obey_all<B: Basis, L: Ledger, K: Sink>(
     ensures later { K.faults listing.old ≤ K.faults listing.new }
     ensures quiet { K.quiet listing.new ≡ K.quiet listing.old }
     ensures calm { K.quiet listing.old ≡ true → K.faults listing.new ≡ K.faults listing.old }
-    ensures ok { OnOk result (ListsAll p.now options.now acts.now (K.written listing.old) (K.written listing.new)) }
-    ensures stops { IfErr result (StopsWith p.now options.now acts.now (K.written listing.old) (K.written listing.new) (K.faults listing.old) (K.faults listing.new)) }
+    ensures stores { D.store_faults library.old ≤ D.store_faults library.new }
+    ensures fetches { D.fetch_faults library.new ≡ D.fetch_faults library.old }
+    ensures misses { (q : List ℕ) → D.misses library.old q ≤ D.misses library.new q }
+    ensures quiet_fetches { D.quiet_fetches library.new ≡ D.quiet_fetches library.old }
+    ensures quiet_stores { D.quiet_stores library.new ≡ D.quiet_stores library.old }
+    ensures calm_stores { D.quiet_stores library.old ≡ true → D.store_faults library.new ≡ D.store_faults library.old }
+    ensures ok { OnOk result (ListsAll p.now options.now acts.now (option_copied certout.entry) (K.written listing.old) (K.written listing.new) (D.held library.old) (D.held library.new)) }
+    ensures stops { IfErr result (StopsWith p.now options.now acts.now (option_copied certout.entry) (K.written listing.old) (K.written listing.new) (K.faults listing.old) (K.faults listing.new) (D.held library.old) (D.held library.new) (D.store_faults library.old) (D.store_faults library.new)) }
 {
     let mut steps = Steps::<L>::new(blank);
     let basis = open::<B, L>(alloc, p, &mut steps)?;
@@ -89,11 +118,12 @@ fn obey_all<B: Basis, L: Ledger, K: Sink>(
         basis,
         pivots: 0,
         cursor: 0,
+        proof: None,
     };
     'acts: for act in acts {
         session = obey(alloc, p, options, act, session, listing, &mut steps)?;
     }
-    Ok(())
+    end(alloc, p, certout, &session.proof, listing, library)
 }
 
 // Obeys one statement.
@@ -114,8 +144,8 @@ fn obey<B: Basis, L: Ledger, K: Sink>(
     ensures calm { K.quiet listing.old ≡ true → K.faults listing.new ≡ K.faults listing.old }
     ensures numbers { IfOk result (λ s. B.HasNumbers p.now s.basis) }
     ensures feasible { IfOk result (λ s. IsFeasibleState p.now (B.standing s.basis)) }
-    ensures obeys { IfOk result (λ s. Obeys p.now options.now act.now (point_at B.standing session) (point_at B.standing s) (K.written listing.old) (K.written listing.new)) }
-    ensures fault { IfErr result (IsObeyFault p.now options.now act.now (point_at B.standing session) (K.written listing.old) (K.written listing.new) (K.faults listing.old) (K.faults listing.new)) }
+    ensures obeys { IfOk result (λ s. Obeys p.now options.now act.now (session_at B.standing session) (session_at B.standing s) (K.written listing.old) (K.written listing.new)) }
+    ensures fault { IfErr result (IsObeyFault p.now options.now act.now (session_at B.standing session).point (K.written listing.old) (K.written listing.new) (K.faults listing.old) (K.faults listing.new)) }
 {
     match act {
         Statement::Run => obey_run(alloc, p, options, session, listing, steps),
@@ -140,8 +170,8 @@ fn obey_run<B: Basis, L: Ledger, K: Sink>(
     ensures calm { K.quiet listing.old ≡ true → K.faults listing.new ≡ K.faults listing.old }
     ensures numbers { IfOk result (λ s. B.HasNumbers p.now s.basis) }
     ensures feasible { IfOk result (λ s. IsFeasibleState p.now (B.standing s.basis)) }
-    ensures obeys { IfOk result (λ s. Obeys p.now options.now Statement.Run (point_at B.standing session) (point_at B.standing s) (K.written listing.old) (K.written listing.new)) }
-    ensures fault { IfErr result (IsObeyFault p.now options.now Statement.Run (point_at B.standing session) (K.written listing.old) (K.written listing.new) (K.faults listing.old) (K.faults listing.new)) }
+    ensures obeys { IfOk result (λ s. Obeys p.now options.now Statement.Run (session_at B.standing session) (session_at B.standing s) (K.written listing.old) (K.written listing.new)) }
+    ensures fault { IfErr result (IsObeyFault p.now options.now Statement.Run (session_at B.standing session).point (K.written listing.old) (K.written listing.new) (K.faults listing.old) (K.faults listing.new)) }
 {
     let (line, session) = run(alloc, p, options, session, steps)?;
     let Ok(text) = halt_text(alloc, line, session.counts()) else {

@@ -1,5 +1,5 @@
 mod Listed
 mod Moved
 mod Gap
-mod Arises
+pub mod Arises
 pub mod Valid

@@ -1,6 +1,6 @@
 use Rattle.std.proofs.Common.{◌≡◌, ◌≤◌, true, take}
 use Rattle.nf_simplex.specs.Standing.{IsFeasibleState}
-use Rattle.nf_run.specs.Steps.{HasListed, point_at}
+use Rattle.nf_run.specs.Steps.{HasListed, session_at}
 use Rattle.nf_run.proofs.statements.obey_all.Given as goal
 
 abbrev pub invariant-acts : goal.invariant-acts
@@ -11,5 +11,5 @@ invariant-acts g l =
       later : g.K.Sink.faults l.fn.listing ≤ g.K.Sink.faults l.listing;
       quiet : g.K.Sink.quiet l.listing ≡ g.K.Sink.quiet l.fn.listing;
       calm : g.K.Sink.quiet l.fn.listing ≡ true → g.K.Sink.faults l.listing ≡ g.K.Sink.faults l.fn.listing;
-      listed : HasListed l.p l.options (take l.act-index l.acts) (point_at g.B.Basis.standing l.session) (g.K.Sink.written l.fn.listing) (g.K.Sink.written l.listing);
+      listed : HasListed l.p l.options (take l.act-index l.acts) (session_at g.B.Basis.standing l.session) (g.K.Sink.written l.fn.listing) (g.K.Sink.written l.listing);
     }

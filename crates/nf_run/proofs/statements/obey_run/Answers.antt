@@ -12,7 +12,7 @@ returns-in-Ok-write_all-clause-obeys g c =
     let line = c.in_ok-line.line in
     let b = point_at g.B.Basis.standing c.in_ok-line.session in
     let lines : c.bytes.result.now ≡ event_lines line b = c.bytes.ensures ∙ (c.in-Ok.ensures ∙ ap (λ k. halt_lines line ++ count_lines k) c.counts.ensures) in
-    (line, c.in_ok-line.ensures.gives, c.in_ok-line.ensures.says, subst (Appends (g.K.Sink.written c.args.listing.now) (g.K.Sink.written c.write_all.new.sink)) lines c.in-Ok-write_all.ensures.ok)
+    (line, c.in_ok-line.ensures.gives, c.in_ok-line.ensures.says, c.in_ok-line.ensures.proof, subst (Appends (g.K.Sink.written c.args.listing.now) (g.K.Sink.written c.write_all.new.sink)) lines c.in-Ok-write_all.ensures.ok)
 
 pub returns-in-Err-Failed-clause-fault : goal.returns-in-Err-Failed-clause-fault
 returns-in-Err-Failed-clause-fault g c =
