@@ -1,6 +1,6 @@
 -- One more statement of a listing, and where it stops.
-use Rattle.std.proofs.Common.{◌≡◌, ◌∙◌, ◌++◌, ◌∷◌, ◌+◌, ◌<◌, ◌≤◌, ◌⊎◌, inl, inr, ℕ, Bool, true, false, List, [], Option, Some, None, length, take, drop, get_or, min, refl, sym, ap, subst, arith, append-nil, append_assoc, length-append}
-use Rattle.std.specs.List.{AllByRecursion, list_all}
+use Rattle.std.proofs.Common.{◌≡◌, ◌∙◌, ◌++◌, ◌∷◌, ◌+◌, ◌<◌, ◌≤◌, inl, inr, ℕ, Bool, true, false, List, [], Option, Some, None, length, take, drop, get_or, refl, sym, ap, subst, arith, append-nil, append_assoc, length-append}
+use Rattle.std.specs.List.{list_all}
 use Rattle.std.proofs.lemmas.List.{take-append-drop, take_more}
 use Rattle.std.proofs.lemmas.List.Folds.{list_all_at}
 use Rattle.std.proofs.lemmas.Grind.{flat_map-append}
@@ -26,7 +26,7 @@ use Rattle.nf_prob.specs.declared.cert.Cert.TheVariants as cert
 use Rattle.nf_prob.specs.Verdict.{HasLengths}
 use Rattle.std.specs.Prelude.{IfSome}
 use Rattle.nf_run.specs.declared.line.HaltLine.TheVariants as line
-use Rattle.nf_run.specs.Endings.{Ends, EndsPart, FailsToStore, HasProof, IsDue, IsEndFault, Stores, last_of}
+use Rattle.nf_run.specs.Endings.{Ends, EndsPart, HasProof, IsDue, IsEndFault, last_of}
 use Rattle.nf_run.specs.Steps.{At, HasListed, IsObeyFault, IsOpeningFault, KeepsProof, Obeys, WritesPart}
 use Rattle.nf_run.specs.Stops.{IsListing, ListsAll, ListsFront, ListsPart, StopsWith, is_standing}
 use Rattle.nf_run.specs.Verdicts.{Proves, Says, TellsVerdict}

@@ -1,6 +1,6 @@
 -- What the halts of the engine make of a RUN: its line, what the line says with which proof, and where an operation
 -- passes.
-use Rattle.std.proofs.Common.{◌≡◌, ℕ, ◌<◌, ◌≤◌, Option, Some, None, refl, sym, ◌∙◌, subst, subst₂}
+use Rattle.std.proofs.Common.{◌≡◌, ℕ, Option, Some, None, refl, sym, ◌∙◌, subst, subst₂}
 use Rattle.nf_num.specs.Rational.{ℚ}
 use Rattle.nf_model.specs.Program.{LinearProgram}
 use Rattle.nf_sums.specs.Terms.{PassesIn}
@@ -15,8 +15,8 @@ use Rattle.nf_engine.specs.declared.halt.Moved.{Moved}
 use Rattle.nf_engine.specs.declared.halt.Moved.TheVariants.{Pivoted, Flipped, Best, NoFlow, NoBound}
 use Rattle.nf_engine.specs.declared.halt.Pauses.{Pauses}
 use Rattle.nf_engine.specs.Point.{Point}
-use Rattle.nf_engine.specs.Run.{GoesOn, GoesOnTo, Halts, Leads, PassesAt, RunsTo}
-use Rattle.nf_engine.specs.Steps.{HasEnded, Picks, StepsBy}
+use Rattle.nf_engine.specs.Run.{GoesOn, Halts, Leads, PassesAt, RunsTo}
+use Rattle.nf_engine.specs.Steps.{HasEnded, Picks}
 use Rattle.nf_simplex.specs.Layout.{layout_of}
 use Rattle.nf_simplex.specs.StageOf.{IsLast}
 use Rattle.nf_basis.specs.declared.col.Col.{Col}

@@ -2,7 +2,6 @@
 -- Each RUN is said to be one under these.
 use Rattle.std.specs.Prelude.{◌≤◌, length}
 use Rattle.nf_model.specs.Program.{LinearProgram}
-use Rattle.nf_model.specs.Problem.{IsProblem}
 use Rattle.nf_simplex.specs.Layout.{layout_of}
 use Rattle.nf_simplex.specs.StageOf.{HasStageTwo}
 use Rattle.nf_program.specs.declared.program.PriceType.{PriceType}

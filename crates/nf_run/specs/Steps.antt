@@ -3,7 +3,6 @@
 use Rattle.std.specs.Prelude.{◌≡◌, ◌⊎◌, ℕ, List, Option, Some, None}
 use Rattle.std.specs.Io.KnownBytes.{Appends}
 use Rattle.nf_model.specs.Program.{LinearProgram}
-use Rattle.nf_frac.specs.declared.passed.Passed.{Passed}
 use Rattle.nf_io.specs.Causes.{Rose}
 use Rattle.nf_io.specs.Progress.{PutPrefix}
 use Rattle.nf_simplex.specs.Standing.{Standing}

@@ -1,7 +1,6 @@
 -- What the line of a halt tells of the state at which it came, and what that says of the problem.
 -- The headline of `run` rests on it: a planner may rely on every line.
 use Rattle.std.specs.Prelude.{◌≡◌, ◌≤◌, true}
-use Rattle.nf_num.specs.Rational.{ℚ}
 use Rattle.nf_model.specs.Program.{LinearProgram, IsBest, cost_of}
 use Rattle.nf_model.specs.Certificate.{IsValidBest}
 use Rattle.nf_model.specs.Farkas.{HasNoFeasible, IsGap, IsValidFarkas}

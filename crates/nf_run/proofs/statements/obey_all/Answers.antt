@@ -1,4 +1,4 @@
-use Rattle.std.proofs.Common.{[], None, ◌∙◌, arith, refl}
+use Rattle.std.proofs.Common.{◌∙◌, arith, refl}
 use Rattle.std.proofs.lemmas.Result.{err_from_is_err_and}
 use Rattle.std.specs.Option.{option_copied}
 use Rattle.nf_run.specs.Steps.{session_at}
