@@ -7,9 +7,10 @@ use Rattle.nf_io.specs.Held.{Held, OthersStay, Stored, most_bytes}
 use Rattle.nf_io.specs.Progress.{PutPrefix}
 use Rattle.nf_model.specs.Program.{LinearProgram}
 use Rattle.nf_prob.specs.declared.cert.Cert.{Cert}
-use Rattle.nf_table.specs.Grid.{Grid}
 use Rattle.nf_table.specs.Reading.{table_read}
+use Rattle.nf_table.specs.Writing.{table_text}
 use Rattle.nf_cert.specs.Reading.{cert_read}
+use Rattle.nf_cert.specs.Written.{cert_grid, cert_rows}
 use Rattle.nf_verdict.specs.declared.ended.Ended.{Ended}
 use Rattle.nf_run.specs.declared.event.RunFault.{RunFault}
 use Rattle.nf_run.specs.declared.event.RunFault.TheVariants as fault
@@ -29,13 +30,13 @@ HasProof p events (Some c) = (e : Event) × (last_of events ≡ Some e) × ((how
 HasProof p events None = (e : Event) → last_of events ≡ Some e → TellsVerdict e.line → ⊥
 
 -- ---- what is stored
--- The bytes are the text of a table with so many rows, which is read as this certificate. A text with more bytes than a
--- data set may have is not read.
+-- The bytes are the text of the certificate's table, which has so many rows below its header. It is read back as this
+-- table, where it has no more bytes than a data set may have, and the table as this certificate.
 pub record IsSavedAs (p : LinearProgram) (c : Cert) (rows : ℕ) (bytes : List ℕ) : Type 0 where
-  pub table : Grid
-  pub as_many : rows ≡ length table.rows
-  pub read : length bytes ≤ most_bytes → table_read bytes ≡ Ok table
-  pub certificate : cert_read table (length p.columns) (length p.rows) ≡ Ok c
+  pub text : bytes ≡ table_text (cert_grid c)
+  pub as_many : rows ≡ length (cert_rows c)
+  pub table_back : length bytes ≤ most_bytes → table_read bytes ≡ Ok (cert_grid c)
+  pub read_back : cert_read (cert_grid c) (length p.columns) (length p.rows) ≡ Ok c
 
 -- The line of a stored certificate.
 abbrev pub saved_line : List ℕ → ℕ → List ℕ
