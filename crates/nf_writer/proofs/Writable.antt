@@ -27,7 +27,10 @@ use Rattle.nf_program.specs.declared.settings.Setting.{Setting}
 use Rattle.nf_program.specs.declared.settings.Setting.TheVariants as setting
 use Rattle.nf_program.specs.Settings.{is_session_setting, is_warm_setting, is_apart, with_setting, options_of, no_options, defaults}
 use Rattle.nf_writer.specs.Canonical.{given, flag_given, count_given, switch_given, rule_given, settings_of}
-use Rattle.std.specs.Prelude.{unsigned_abs}
+use Rattle.std.specs.Prelude.{unsigned_abs, IfSome}
+use Rattle.nf_frac.specs.declared.amount.Amount.{Amount}
+use Rattle.nf_frac.specs.Amounts.{IsAmount}
+use Rattle.nf_program.specs.declared.words.AmountOption.{AmountOption}
 use Rattle.std.specs.List.{list_all}
 use Rattle.nf_text.specs.declared.token.TokenKind.{TokenKind}
 use Rattle.nf_text.specs.Tokens.{IsPiece, Lexeme}
@@ -545,4 +548,26 @@ sets_text p h = record {
   dualout = output_text out.Dualout p.dualout h.dualout_ok;
   sessionout = output_text out.Sessionout p.sessionout h.sessionout_ok;
   certout = output_text out.Certout p.certout h.certout_ok;
+}
+
+-- ---- the amounts of options are in range
+
+amount_given : (o : AmountOption) (m : Option Amount) → Given (setting.Amount o) m → IfSome m IsAmount
+unfolding Given SettingOk
+amount_given o None h = tt
+amount_given o (Some a) h = h
+
+-- The amounts that options give are in range.
+pub record HasAmounts (p : ProcOptions) : Type 0 where
+  pub defcost : IfSome p.defcost IsAmount
+  pub defminflow : IfSome p.defminflow IsAmount
+  pub supply : IfSome p.supply IsAmount
+  pub demand : IfSome p.demand IsAmount
+
+pub options_have_amounts : (p : ProcOptions) → ProcOk p → HasAmounts p
+options_have_amounts p h = record {
+  defcost = amount_given amount.DefCost p.defcost h.defcost_ok;
+  defminflow = amount_given amount.DefMinFlow p.defminflow h.defminflow_ok;
+  supply = amount_given amount.Supply p.supply h.supply_ok;
+  demand = amount_given amount.Demand p.demand h.demand_ok;
 }

@@ -33,7 +33,7 @@ use Rattle.nf_writer.proofs.Spellings.{statement_spelled, option_spelled, print_
 use Rattle.nf_writer.proofs.Numbers.{count_number, count_digits, count_short, count_value, amount_number, amount_back}
 use Rattle.nf_writer.proofs.Names.{Quotable, Writable, plain_word, quoted_piece, inside_quotes, node_quotable, column_writable}
 use Rattle.nf_writer.proofs.Canon.{settings_distinct, settings_make}
-use Rattle.nf_writer.proofs.Writable.{SetOk, SettingOk, SettingsOk, ArePieces, pieces_front, pieces_back, settings_ok, ProcOk, options_ok, proc_settings_ok, settings_apart, SetsAreText, sets_text}
+use Rattle.nf_writer.proofs.Writable.{SetOk, SettingOk, SettingsOk, ArePieces, pieces_front, pieces_back, settings_ok, ProcOk, options_ok, proc_settings_ok, settings_apart, SetsAreText, sets_text, HasAmounts, options_have_amounts}
 
 -- ---- the pieces are a cut of the text
 
@@ -455,3 +455,6 @@ written c text p h le =
 
 pub names_are_text : (c : Command) (text : List ℕ) (p : Program) → HasProgram c text p → SetsAreText p.proc
 names_are_text c text p h = sets_text p.proc (proc_ok c p (lexemes text h.1) h.3 (text_pieces text h.1 h.2))
+
+pub amounts_are_in_range : (c : Command) (text : List ℕ) (p : Program) → HasProgram c text p → HasAmounts p.proc
+amounts_are_in_range c text p h = options_have_amounts p.proc (proc_ok c p (lexemes text h.1) h.3 (text_pieces text h.1 h.2))
