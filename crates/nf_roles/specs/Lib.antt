@@ -3,3 +3,4 @@ pub mod First
 pub mod Roles
 pub mod Named
 pub mod Assigned
+pub mod Kinds

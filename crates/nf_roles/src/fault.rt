@@ -1,5 +1,6 @@
 //! Faults of roles and of data.
-ghost use Rattle.std.specs.Prelude.{◌≡◌, ◌⊎◌, length};
+ghost use Rattle.std.specs.Prelude.{◌≡◌, ◌⊎◌, Some, length};
+ghost use Rattle.nf_roles.specs.Kinds.{data_word};
 ghost use Rattle.nf_roles.specs.Roles.{HasColumnsBelow, column_text};
 
 use crate::roles::Roles;
@@ -7,6 +8,7 @@ use nf_io::Text;
 use nf_stmt::{Role, SetName};
 use nf_table::Table;
 use std::alloc::{AllocError, Global};
+use std::fmt;
 use thiserror::Error;
 
 /// Why the roles of a table's columns cannot be told. The variants stand in the order in which they are looked for.
@@ -75,6 +77,32 @@ pub enum DataKind {
     TwoRightSides,
     /// There was no memory for the problem.
     NoMemory,
+}
+
+impl fmt::Display for DataKind {
+    ghost output = { λ k. Some (data_word k) };
+
+    fn fmt<W: fmt::Write>(&self, f: &mut fmt::Formatter<W>) -> fmt::Result {
+        match self {
+            DataKind::LimitPassed => write!(f, "LimitPassed"),
+            DataKind::BadName => write!(f, "BadName"),
+            DataKind::ReservedName => write!(f, "ReservedName"),
+            DataKind::RepeatedArc => write!(f, "RepeatedArc"),
+            DataKind::Amount => write!(f, "Amount"),
+            DataKind::CrossedBounds => write!(f, "CrossedBounds"),
+            DataKind::TwoSupplies => write!(f, "TwoSupplies"),
+            DataKind::RepeatedNode => write!(f, "RepeatedNode"),
+            DataKind::UnknownSource => write!(f, "UnknownSource"),
+            DataKind::AmbiguousName => write!(f, "AmbiguousName"),
+            DataKind::RepeatedRow => write!(f, "RepeatedRow"),
+            DataKind::UnknownKind => write!(f, "UnknownKind"),
+            DataKind::ArcHere => write!(f, "ArcHere"),
+            DataKind::RepeatedCoefficient => write!(f, "RepeatedCoefficient"),
+            DataKind::TwoKinds => write!(f, "TwoKinds"),
+            DataKind::TwoRightSides => write!(f, "TwoRightSides"),
+            DataKind::NoMemory => write!(f, "NoMemory"),
+        }
+    }
 }
 
 /// What is wrong with a cell of a row, told by the cell's role.
