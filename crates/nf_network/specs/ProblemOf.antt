@@ -1,15 +1,18 @@
 -- The problem of a program and the bytes of its data sets, with its labels, or the first refusal.
 -- What a check and a run of a program say of its problem rests on it.
-use Rattle.std.specs.Prelude.{List, [], Option, Some, None, Result, Ok, Err, ℕ}
+use Rattle.std.specs.Prelude.{ℕ, List, [], Option, Some, None, Result, Ok, Err, if◌then◌else◌, length, codes}
+use Rattle.std.specs.Bool.{nat_lt}
 use Rattle.nf_table.specs.Grid.{Cells, Grid}
 use Rattle.nf_table.specs.Reading.{table_read}
 use Rattle.nf_table.specs.declared.table.TableFault.{TableFault}
 use Rattle.nf_program.specs.declared.program.Program.{Program}
+use Rattle.nf_program.specs.declared.program.ProcOptions.{ProcOptions}
 use Rattle.nf_program.specs.declared.program.SetName.{SetName}
-use Rattle.nf_program.specs.declared.program.SetName.TheVariants.{Arcdata, Nodedata, Condata}
+use Rattle.nf_program.specs.declared.program.SetName.TheVariants.{Arcdata, Nodedata, Condata, Proc}
 use Rattle.nf_roles.specs.declared.columns.SetKind.{SetKind}
 use Rattle.nf_roles.specs.declared.columns.SetKind.TheVariants.{Arcs, Nodes}
 use Rattle.nf_roles.specs.declared.fault.DataFault.{DataFault}
+use Rattle.nf_roles.specs.declared.fault.DataKind.TheVariants.{LimitPassed}
 use Rattle.nf_roles.specs.declared.fault.RoleFault.{RoleFault}
 use Rattle.nf_roles.specs.Assigned.{roles_due}
 use Rattle.nf_roles.specs.Roles.{RoleColumns}
@@ -21,7 +24,8 @@ pub record Sets : Type 0 where
   pub nodedata : Option (List ℕ)
   pub condata : Option (List ℕ)
 
--- Why there is no problem: a data set is no table, its columns have no roles, or its data has a fault.
+-- Why there is no problem: a data set is no table, its columns have no roles, or the data, an option or the size of the
+-- problem has a fault.
 pub data Refusal : Type 0 where
   OfTable : SetName → TableFault → Refusal
   OfRoles : SetName → RoleFault → Refusal
@@ -37,32 +41,60 @@ abbrev pub in_set : SetName → Result Grid TableFault → Result Grid Refusal
 in_set s (Ok table) = Ok table
 in_set s (Err f) = Err (OfTable s f)
 
--- A data set that is not there has no header and no rows.
-abbrev pub table_of : SetName → Option (List ℕ) → Result Grid Refusal
-table_of s None = Ok no_table
-table_of s (Some bytes) = in_set s (table_read bytes)
+-- The table of a data set that may be left out, where it is there.
+abbrev pub where_there : Result Grid Refusal → Result (Option Grid) Refusal
+where_there (Ok table) = Ok (Some table)
+where_there (Err refusal) = Err refusal
+
+abbrev pub table_of : SetName → Option (List ℕ) → Result (Option Grid) Refusal
+table_of s None = Ok None
+table_of s (Some bytes) = where_there (in_set s (table_read bytes))
 
 -- The roles of a data set that is there.
 abbrev pub in_roles : SetName → Result RoleColumns RoleFault → Result RoleColumns Refusal
 in_roles s (Ok roles) = Ok roles
 in_roles s (Err f) = Err (OfRoles s f)
 
-abbrev pub roles_of : Option (List ℕ) → SetName → SetKind → Cells → Cells → Program → Result RoleColumns Refusal
-roles_of None s k header cons p = Ok no_roles
-roles_of (Some bytes) s k header cons p = in_roles s (roles_due k header cons p.roles)
-
 -- The network of the data.
 abbrev pub in_data : Result Network DataFault → Result Network Refusal
 in_data (Ok n) = Ok n
 in_data (Err f) = Err (OfData f)
 
+-- A problem has so many rows at most; more are told at row 0, column ROWS of PROC.
+abbrev pub most_rows : ℕ
+most_rows = 1000
+
+abbrev pub size_fault : DataFault
+size_fault = record { set = Proc; row = 0; column = codes "ROWS"; kind = LimitPassed }
+
+abbrev pub in_size : Network → Result Network Refusal
+in_size n = if nat_lt most_rows (length n.program.rows) then Err (OfData size_fault) else Ok n
+
+-- The network of tables whose columns have these roles.
+abbrev pub network_in : ProcOptions → RoleColumns → Grid → RoleColumns → Grid → Result Network Refusal
+network_in o arc_roles arcs node_roles nodes = then_with (in_data (network_due o arc_roles arcs node_roles nodes)) in_size
+
+-- The same where NODEDATA may be left out: it then has no header and no rows.
+abbrev pub with_nodes : Program → RoleColumns → Grid → Option Grid → Result Network Refusal
+with_nodes p arc_roles arcs None = network_in p.proc arc_roles arcs no_roles no_table
+with_nodes p arc_roles arcs (Some nodes) =
+    then_with (in_roles Nodedata (roles_due Nodes nodes.header [] p.roles)) (λ node_roles. network_in p.proc arc_roles arcs node_roles nodes)
+
+-- The header of CONDATA, where the program has it.
+abbrev pub header_in : Option Grid → Cells
+header_in None = []
+header_in (Some cons) = cons.header
+
+-- The problem of a program and the tables of ARCDATA, NODEDATA and CONDATA: first the roles are told, then the data, then
+-- the size.
+unfoldable pub problem_in : Program → Grid → Option Grid → Option Grid → Result Network Refusal
+problem_in p arcs nodes cons =
+    then_with (in_roles Arcdata (roles_due Arcs arcs.header (header_in cons) p.roles)) (λ arc_roles. with_nodes p arc_roles arcs nodes)
+
 -- The problem that a program and the bytes of its data sets stand for, or the first refusal: of all tables, then of all
--- roles, then of all data.
+-- roles, then of all data, then of the size.
 unfoldable pub problem_of : Program → Sets → Result Network Refusal
 problem_of p s =
     then_with (in_set Arcdata (table_read s.arcdata)) (λ arcs.
     then_with (table_of Nodedata s.nodedata) (λ nodes.
-    then_with (table_of Condata s.condata) (λ cons.
-    then_with (in_roles Arcdata (roles_due Arcs arcs.header cons.header p.roles)) (λ arc_roles.
-    then_with (roles_of s.nodedata Nodedata Nodes nodes.header [] p) (λ node_roles.
-    in_data (network_due p.proc arc_roles arcs node_roles nodes))))))
+    then_with (table_of Condata s.condata) (λ cons. problem_in p arcs nodes cons)))

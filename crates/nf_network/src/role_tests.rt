@@ -8,75 +8,47 @@ use std::test::Fail;
 // ROW, TYPE, RHS, COLUMN and COEF, then the variables and the ID columns; or the fault.
 type RolesCase = [&'static str; 4];
 
-fn dense_roles() -> &'static [RolesCase] {
+fn cases() -> &'static [(SetKind, RolesCase)] {
     &[
-        [
-            "",
-            "_ROW_,_type_,x,_COLUMN_,y,_RHS_",
-            "",
-            "0 1 5 - - ; 2 4 ; ; ",
-        ],
-        [
-            "type t; row r; rhs b; id i;",
-            "i,r,t,b,x",
-            "",
-            "1 2 3 - - ; 4 ; 0 ; ",
-        ],
-        [
-            "var y X _TYPE_;",
-            "x,y,z,_TYPE_",
-            "",
-            "- 3 - - - ; 0 1 ; ; ",
-        ],
-        [
-            "coef x; column q; id q;",
-            "_ROW_,x",
-            "",
-            "0 - - - - ; 1 ; ; ",
-        ],
-        ["", "x", "", "- - - - - ; 0 ; ; "],
-        ["var x y; row r;", "x,_ROW_", "", "NoColumn y"],
-        ["var x X;", "x", "", "TwoRoles x"],
-        ["row x; rhs X;", "x", "", "TwoRoles x"],
-    ]
-}
-
-fn sparse_roles() -> &'static [RolesCase] {
-    &[
-        ["", "_ROW_,_COEF_,x,_COLUMN_", "", "0 - - 3 1 ; ; ; "],
-        [
-            "column c; coef v; id x;",
-            "v,c,_row_,x,_TYPE_",
-            "",
-            "2 4 - 1 0 ; ; 3 ; ",
-        ],
-        ["var q;", "_ROW_,_COLUMN_,_COEF_", "", "0 - - 1 2 ; ; ; "],
-        ["coef v;", "_ROW_,_COLUMN_,_COEF_", "", "NoColumn v"],
-        ["column c; coef c;", "_ROW_,c", "", "TwoRoles c"],
-        ["", "_COLUMN_,_COEF_", "", "MissingRole Row"],
-        ["", "_ROW_,_COLUMN_", "", "MissingRole Coef"],
-    ]
-}
-
-fn arc_roles() -> &'static [RolesCase] {
-    &[
-        ["id q x;", "_FROM_,_TO_,x", "q", "- - - - - ; ; 2 ; "],
-        ["id q z;", "_FROM_,_TO_", "q", "NoColumn z"],
-        ["cost q;", "_FROM_,_TO_", "q", "NoColumn q"],
+        (
+            SetKind::Dense,
+            [
+                "type t; row r; rhs b; id i;",
+                "i,r,t,b,x",
+                "",
+                "1 2 3 - - ; 4 ; 0 ; ",
+            ],
+        ),
+        (
+            SetKind::Dense,
+            [
+                "var y X _TYPE_;",
+                "x,y,z,_TYPE_",
+                "",
+                "- 3 - - - ; 0 1 ; ; ",
+            ],
+        ),
+        (
+            SetKind::Sparse,
+            [
+                "column c; coef v; id x;",
+                "v,c,_row_,x,_TYPE_",
+                "",
+                "2 4 - 1 0 ; ; 3 ; ",
+            ],
+        ),
+        (
+            SetKind::Arcs,
+            ["id q x;", "_FROM_,_TO_,x", "q", "- - - - - ; ; 2 ; "],
+        ),
     ]
 }
 
 #[test]
 fn tells_roles(rt: HostRuntime) -> Result<(), Fail> {
-    for (set, table) in [
-        (SetKind::Dense, dense_roles()),
-        (SetKind::Sparse, sparse_roles()),
-        (SetKind::Arcs, arc_roles()),
-    ] {
-        for case in table {
-            let told = told_roles(rt.alloc(), set, case)?;
-            assert_eq!(rt; told.as_str(), case[3]);
-        }
+    for (set, case) in cases() {
+        let told = told_roles(rt.alloc(), *set, case)?;
+        assert_eq!(rt; told.as_str(), case[3]);
     }
     Ok(())
 }
