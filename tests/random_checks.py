@@ -10,7 +10,7 @@ table, the certificate's rows, the program text, the words, the files. What the 
 bytes of the files by the second half of this script, which shares nothing with the program. Status and listing are
 compared byte by byte. A scenario depends on the seed and its number alone.
 
-    --oracle PATH     compares with another implementation besides: it is started as `PATH/netflow --stage 2`
+    --oracle PATH     compares with another implementation besides: it is started as `PATH/netflow --stage 5`
     --first N         begins at scenario N
     --keep FOLDER     keeps the files of scenarios that fail
 """
@@ -588,41 +588,158 @@ def read_table(data, name):
     return rows
 
 
-def is_node(value):
-    return re.fullmatch(rb"[A-Za-z0-9_ .-]{1,32}", value) and value not in (b".", b"_EXCESS_")
+ARC_ROLES = {"tailnode": (b"_FROM_", b"_TAIL_"), "headnode": (b"_TO_", b"_HEAD_"), "name": (b"_NAME_",), "cost": (b"_COST_",),
+             "lo": (b"_LO_",), "capacity": (b"_CAPAC_",), "supply": (b"_SUPPLY_",), "demand": (b"_DEMAND_",)}
+NODE_ROLES = {"node": (b"_NODE_",), "supdem": (b"_SUPDEM_",)}
 
 
-def read_network(arc_rows, node_rows):
-    """Arcs between numbers from 0, and supplies."""
-    number, arcs, pairs = {}, [], set()
-    good = arc_rows[0] == [b"_FROM_", b"_TO_", b"_COST_", b"_CAPAC_"] and len(arc_rows) <= 200001
-    for row in arc_rows[1:] if good else []:
-        tail, head, cost, capacity = [cell.strip(b" ") for cell in row]
-        if not (is_node(tail) and is_node(head) and re.fullmatch(rb"-?[0-9]{1,9}", cost)
-                and (capacity.upper() == b"INF" or re.fullmatch(rb"[0-9]{1,9}", capacity)) and (tail, head) not in pairs):
-            good = False
-            break
-        pairs.add((tail, head))
-        number.setdefault(tail, len(number))
-        number.setdefault(head, len(number))
-        arcs.append((number[tail], number[head], int(cost), None if capacity.upper() == b"INF" else int(capacity)))
-    if not good:
-        raise Answer(4, "DATA REFUSED ARCDATA: Form")
-    supplies = {}
-    good = node_rows[0] == [b"_NODE_", b"_SUPDEM_"]
-    for row in node_rows[1:] if good else []:
-        node, value = [cell.strip(b" ") for cell in row]
-        if not (is_node(node) and node not in supplies and re.fullmatch(rb"-?[0-9]{1,9}", value)):
-            good = False
-            break
-        supplies[node] = int(value)
-        number.setdefault(node, len(number))
-    if not good or sum(supplies.values()) != 0 or len(number) > 1000:
-        raise Answer(4, "DATA REFUSED NODEDATA: Form")
-    supply = [0] * len(number)
-    for node, value in supplies.items():
-        supply[number[node]] = value
-    return arcs, supply
+def read_roles(header, roles, needed, statements, name):
+    """The column of each role, or None; the last key says how a role's column is told."""
+    named = [(role, column) for role, columns in statements for column in columns if role in roles or (role == "id" and name == "ARCDATA")]
+    upper = [cell.upper() for cell in header]
+    for _, column in named:
+        if column.upper() not in upper:
+            raise Answer(4, "DATA REFUSED %s: NoColumn %s" % (name, column.decode()))
+    free = [reserved for role, reserved in roles.items() if all(role != other for other, _ in named)]
+    for c, cell in enumerate(upper):
+        if sum(column.upper() == cell for _, column in named) > 1 or any(cell in reserved and any(x in reserved for x in upper[:c]) for reserved in free):
+            raise Answer(4, "DATA REFUSED %s: TwoRoles %s" % (name, header[c].decode()))
+    at, told = {}, {}
+    for role, reserved in roles.items():
+        wanted = [column.upper() for other, column in named if other == role] or reserved
+        at[role] = next((c for c, cell in enumerate(upper) if cell in wanted), None)
+        told[role] = (reserved[0] if at[role] is None else header[at[role]]).decode()
+    for role in needed:
+        if at[role] is None:
+            raise Answer(4, "DATA REFUSED %s: MissingRole %s" % (name, role.upper()))
+    return at, told
+
+
+def is_name(value):
+    return re.fullmatch(rb"[A-Za-z0-9_ .-]{1,32}", value)
+
+
+def amount(value):
+    return Fraction(value.decode()) if re.fullmatch(rb"-?[0-9]{1,9}(\.[0-9]{1,3})?", value) else None
+
+
+class Data:
+    """The data of a program: rows are read one by one, and the first fault is raised."""
+
+    def __init__(self, given):
+        self.given, self.number, self.value, self.arcs, self.keys = given, {}, {}, [], set()
+        self.name, self.row, self.told = "", 0, {}
+
+    def fault(self, role, kind):
+        raise Answer(4, "DATA REFUSED %s ROW %d COLUMN %s: %s" % (self.name, self.row, self.told[role], kind))
+
+    def cells(self, row, at):
+        values = {role: b"" if c is None else row[c].strip(b" ") for role, c in at.items()}
+        return {role: b"" if value == b"." else value for role, value in values.items()}
+
+    def node(self, role, name, earlier=()):
+        if not is_name(name):
+            self.fault(role, "BadName")
+        if name == b"_EXCESS_":
+            self.fault(role, "ReservedName")
+        if name in earlier:
+            self.fault(role, "RepeatedNode")
+        self.number.setdefault(name, len(self.number))
+        if len(self.number) > 20000:
+            self.fault(role, "LimitPassed")
+
+    def number_in(self, role, value, default):
+        found = default if value == b"" else amount(value)
+        if found is None:
+            self.fault(role, "Amount")
+        return found
+
+    def give(self, role, node, value, sign, opens):
+        if value == b"":
+            return
+        found = value.decode().strip(".") if value in opens else amount(value)
+        if found is None:
+            self.fault(role, "Amount")
+        self.set(role, node, found if isinstance(found, str) else sign * found)
+
+    def set(self, role, node, value):
+        if self.value.setdefault(node, value) != value:
+            self.fault(role, "TwoSupplies")
+
+    def read_arcs(self, rows, at, told):
+        self.name, self.told = "ARCDATA", told
+        lower = self.given.get("defcapacity", b"INF")
+        default = None if lower.upper() == b"INF" else amount(lower)
+        for self.row, row in enumerate(rows[1:], 1):
+            v = self.cells(row, at)
+            if self.row > 200000:
+                self.fault("tailnode", "LimitPassed")
+            self.node("tailnode", v["tailnode"])
+            self.node("headnode", v["headnode"])
+            tail, head = v["tailnode"], v["headnode"]
+            if v["name"] and not is_name(v["name"]):
+                self.fault("name", "BadName")
+            key = (tail, head, v["name"] or tail + b"_" + head)
+            if key in self.keys:
+                self.fault("name", "RepeatedArc")
+            self.keys.add(key)
+            cost = self.number_in("cost", v["cost"], amount(self.given.get("defcost", b"0")))
+            least = self.number_in("lo", v["lo"], amount(self.given.get("defminflow", b"0")))
+            most = default
+            if v["capacity"]:
+                most = None if v["capacity"].upper() == b"INF" else self.number_in("capacity", v["capacity"], None)
+            if most is not None and most < least:
+                self.fault("capacity", "CrossedBounds")
+            self.give("supply", tail, v["supply"], 1, (b"S", b".S"))
+            self.give("demand", head, v["demand"], -1, (b"D", b".D"))
+            self.arcs.append((self.number[tail], self.number[head], -cost if "maximize" in self.given else cost, least, most))
+
+    def read_nodes(self, rows, at, told):
+        self.name, self.told, earlier = "NODEDATA", told, set()
+        for self.row, row in enumerate(rows[1:], 1):
+            v = self.cells(row, at)
+            self.node("node", v["node"], earlier)
+            earlier.add(v["node"])
+            self.give("supdem", v["node"], v["supdem"], 1, (b"S", b".S", b"D", b".D"))
+
+    def read_options(self):
+        self.name, self.row, self.told = "PROC", 0, {"source": "SOURCE", "sink": "SINK", "rows": "ROWS"}
+        for option, value, sign in (("source", "supply", 1), ("sink", "demand", -1)):
+            if option in self.given:
+                if self.given[option] not in self.number:
+                    self.fault(option, "UnknownSource")
+                if value in self.given:
+                    self.set(option, self.given[option], sign * amount(self.given[value]))
+
+    def problem(self):
+        """Arcs between numbers from 0, with least and most flow, and the right sides."""
+        values = [self.value.get(node) for node in self.number]
+        numbers = [0 if v is None or isinstance(v, str) else v for v in values]
+        total, excess, thrunet = sum(numbers), len(values), "thrunet" in self.given
+        more = []
+        for i, v in enumerate(values):
+            amount_here = None if v is None or isinstance(v, str) else v
+            side = 0 if amount_here is None else amount_here if not thrunet else -amount_here
+            sends = v == "D" or (total > 0 and "D" not in values and side > 0)
+            gets = v == "S" or (total < 0 and "S" not in values and side < 0)
+            more += [(i, excess, 0, 0, None)] * sends + [(excess, i, 0, 0, None)] * gets
+        if more or total != 0:
+            numbers.append(-total)
+        if len(numbers) > 1000:
+            self.fault("rows", "LimitPassed")
+        return self.arcs + more, numbers
+
+
+def read_network(tables, given, statements):
+    """The problem of ARCDATA and NODEDATA, where that is there."""
+    arcs = read_roles(tables[0][0], ARC_ROLES, ("tailnode", "headnode"), statements, "ARCDATA")
+    nodes = tables[1] and read_roles(tables[1][0], NODE_ROLES, ("node", "supdem"), statements, "NODEDATA")
+    data = Data(given)
+    data.read_arcs(tables[0], *arcs)
+    if nodes:
+        data.read_nodes(tables[1], *nodes)
+    data.read_options()
+    return data.problem()
 
 
 def read_fraction(text):
@@ -643,37 +760,67 @@ def read_certificate(rows, columns, nodes):
         if not places:
             raise Answer(9, "REFUSED CERTDATA NO COLUMN " + name.decode())
         at.append(places[0])
-    due = [(b"VERDICT", 1)] + [(b"COL", j) for j in range(1, columns + 1)] + [(b"ROW", i) for i in range(1, nodes + 1)]
-    values = []
+    verdict = rows[1][at[2]].strip(b" ") if len(rows) > 1 else b""
+    parts = {b"OPTIMAL": ("COL", "ROW"), b"INFEASIBLE": ("ROW",), b"UNBOUNDED": ("COL", "RAY")}.get(verdict, ())
+    due = [(b"VERDICT", 1)] + [(part.encode(), n) for part in parts for n in range(1, (nodes if part == "ROW" else columns) + 1)]
+    values = {part: [] for part in ("COL", "ROW", "RAY")}
     for n in range(1, max(len(due), len(rows) - 1) + 1):
         if n >= len(rows):
             raise Answer(9, "REFUSED CERTDATA MISSING ROW %d" % n)
         item, count, value = [rows[n][c].strip(b" ") for c in at]
-        if n > len(due) or item != due[n - 1][0] or count != b"%d" % due[n - 1][1] or (n == 1 and value != b"OPTIMAL"):
+        if n > len(due) or item != due[n - 1][0] or count != b"%d" % due[n - 1][1] or (n == 1 and not parts):
             raise Answer(9, "REFUSED CERTDATA UNKNOWN ROW %d" % n)
         if n > 1:
-            values.append(read_fraction(value))
-            if values[-1] is None:
+            number = read_fraction(value)
+            if number is None:
                 raise Answer(9, "REFUSED CERTDATA NUMBER ROW %d" % n)
-    return values[:columns], values[columns:]
+            values[item.decode()].append(number)
+    return verdict.decode(), values
 
 
-def verify(arcs, supply, flow, dual):
-    for j, (_, _, _, capacity) in enumerate(arcs):
-        if flow[j] < 0 or (capacity is not None and flow[j] > capacity):
+def verify(arcs, supply, verdict, values, sign):
+    """What is accepted, or the first thing that fails; costs and rates in the program's own sense, of this sign."""
+    flow, dual, ray = values["COL"], values["ROW"], values["RAY"]
+
+    def leaving(numbers):
+        out = [Fraction(0)] * len(supply)
+        for j, arc in enumerate(arcs):
+            out[arc[0]] += numbers[j]
+            out[arc[1]] -= numbers[j]
+        return out
+
+    if verdict == "INFEASIBLE":
+        gap = sum((y * b for y, b in zip(dual, supply)), Fraction(0))
+        for j, (tail, head, _, least, most) in enumerate(arcs):
+            weight = dual[tail] - dual[head]
+            if weight > 0 and most is None:
+                raise Answer(9, "REFUSED COLUMN C%d" % (j + 1))
+            gap -= weight * (most if weight > 0 else least)
+        if gap <= 0:
+            raise Answer(9, "REFUSED GAP %s" % gap)
+        return "INFEASIBLE\nGAP %s" % gap
+    for j, (_, _, _, least, most) in enumerate(arcs):
+        if flow[j] < least or (most is not None and flow[j] > most):
             raise Answer(9, "REFUSED BOUND C%d" % (j + 1))
-    out = [Fraction(0)] * len(supply)
-    for j, (tail, head, _, _) in enumerate(arcs):
-        out[tail] += flow[j]
-        out[head] -= flow[j]
-    for i, value in enumerate(supply):
-        if out[i] != value:
+    for i, value in enumerate(leaving(flow)):
+        if value != supply[i]:
             raise Answer(9, "REFUSED ROW %d" % (i + 1))
-    for j, (tail, head, cost, capacity) in enumerate(arcs):
-        reduced = cost - (dual[tail] - dual[head])
-        if (reduced > 0 and flow[j] != 0) or (reduced < 0 and (capacity is None or flow[j] != capacity)):
-            raise Answer(9, "REFUSED REDUCED COST C%d" % (j + 1))
-    return sum((cost * flow[j] for j, (_, _, cost, _) in enumerate(arcs)), Fraction(0))
+    if verdict == "OPTIMAL":
+        for j, (tail, head, cost, least, most) in enumerate(arcs):
+            reduced = cost - (dual[tail] - dual[head])
+            if (reduced > 0 and flow[j] != least) or (reduced < 0 and (most is None or flow[j] != most)):
+                raise Answer(9, "REFUSED REDUCED COST C%d" % (j + 1))
+        return "OPTIMAL\nTOTAL COST %s" % (sign * sum((arc[2] * x for arc, x in zip(arcs, flow)), Fraction(0)))
+    for j, arc in enumerate(arcs):
+        if ray[j] < 0 or (ray[j] > 0 and arc[4] is not None):
+            raise Answer(9, "REFUSED RAY C%d" % (j + 1))
+    for i, value in enumerate(leaving(ray)):
+        if value != 0:
+            raise Answer(9, "REFUSED RAY ROW %d" % (i + 1))
+    rate = sum((arc[2] * x for arc, x in zip(arcs, ray)), Fraction(0))
+    if rate >= 0:
+        raise Answer(9, "REFUSED RATE %s" % (sign * rate))
+    return "UNBOUNDED\nRATE %s" % (sign * rate)
 
 
 # the program's text: words and kinds as docs/FORMATS.md lists them
@@ -801,8 +948,8 @@ class Statements:
         return given
 
     def behind(self):
-        """The roles of the statements behind PROC."""
-        roles, over = [], False
+        """The role statements behind PROC, with their column names."""
+        statements, roles, over = [], [], False
         while self.at < len(self.tokens):
             token = self.next()
             if token[0] == "semicolon":
@@ -817,7 +964,7 @@ class Statements:
                 if over:
                     refuse(token[2], "StatementOrder")
                 roles.append(role)
-                self.columns(role)
+                statements.append((role, self.columns(role)))
             elif word == "quit" and not over:
                 over, token = True, self.next()
                 if token[0] != "semicolon":
@@ -826,29 +973,30 @@ class Statements:
                 refuse(token[2], "StatementOrder")
             else:
                 refuse(token[2], "UnknownWord")
-        return roles
+        return statements
 
     def columns(self, role):
-        count = 0
+        names = []
         while True:
             token = self.next()
-            if token[0] == "semicolon" and count:
-                return
-            if not has_kind("column", token) or (count and role not in ("var", "id")):
+            if token[0] == "semicolon" and names:
+                return names
+            if not has_kind("column", token) or (names and role not in ("var", "id")):
                 refuse(token[2], "WrongValue")
-            count += 1
+            names.append(token[1][1:-1] if token[0] == "quoted" else token[1])
 
 
 def read_program(text):
-    """The names of ARCDATA, NODEDATA and CERTDATA."""
+    """The names of ARCDATA, NODEDATA, where it is named, and CERTDATA; the options of PROC; the role statements."""
     if len(text) > 1048576:
         refuse(1048576, "TooLong")
     statements = Statements(text)
     given, roles = statements.proc(), statements.behind()
-    looked_at = {name for name, (group, _) in given.items() if group == "proc"} - {"warm", "conin", "dualin", "sessiondata"}
-    if roles or looked_at != {"arcdata", "nodedata", "certdata"}:
+    if any(option in given for option in ("condata", "sparsecondata", "defcontype")) \
+            or any(role in ("var", "type", "rhs", "row", "column", "coef") for role, _ in roles):
         refuse(0, "Form")
-    return [given[name][1].lower() for name in ("arcdata", "nodedata", "certdata")]
+    names = [given[name][1].lower() if name in given else None for name in ("arcdata", "nodedata", "certdata")]
+    return names, {name: value.encode("latin-1").strip(b"'\"") for name, (_, value) in given.items()}, roles
 
 
 def expected(words, program, files):
@@ -857,20 +1005,20 @@ def expected(words, program, files):
     try:
         if words != ["check"]:
             raise Answer(2, USAGE)
+        names, given, statements = read_program(program)
         data = []
-        for name in read_program(program):
-            content = files.get(name)
-            if content is None:
+        for name in names:
+            content = files.get(name) if name else None
+            if name and content is None:
                 raise Answer(7, "ABSENT " + name)
             if content is DIRECTORY:
                 raise Answer(5, "READ FAULT")
             data.append(content)
-        tables = [read_table(content, name) for content, name in zip(data, ("ARCDATA", "NODEDATA", "CERTDATA"))]
-        arcs, supply = read_network(tables[0], tables[1])
-        flow, dual = read_certificate(tables[2], len(arcs), len(supply))
-        wide = any(max(abs(v.numerator), v.denominator) >= 2 ** 60 for v in flow + dual)
-        cost = verify(arcs, supply, flow, dual)
-        return 0, "ACCEPTED OPTIMAL\nTOTAL COST %s\n" % cost, wide
+        tables = [None if content is None else read_table(content, name) for content, name in zip(data, ("ARCDATA", "NODEDATA", "CERTDATA"))]
+        arcs, supply = read_network(tables, given, statements)
+        verdict, values = read_certificate(tables[2], len(arcs), len(supply))
+        wide = any(max(abs(v.numerator), v.denominator) >= 2 ** 60 for part in values.values() for v in part)
+        return 0, "ACCEPTED %s\n" % verify(arcs, supply, verdict, values, -1 if "maximize" in given else 1), wide
     except Answer as answer:
         return answer.status, answer.line + "\n", wide
 
@@ -902,8 +1050,9 @@ def is_range_line(listing):
 # ---------------------------------------------------------------- comparison
 
 KINDS = [
-    "0 ACCEPTED OPTIMAL", "2 USAGE", "3 PROGRAM REFUSED", "4 DATA REFUSED: Form", "4 DATA REFUSED: NoHeader",
-    "4 DATA REFUSED: RowLength", "4 DATA REFUSED: NotText", "4 DATA REFUSED: RepeatedColumn", "5 READ FAULT", "7 ABSENT",
+    "0 ACCEPTED OPTIMAL", "2 USAGE", "3 PROGRAM REFUSED", "4 DATA REFUSED: NoHeader",
+    "4 DATA REFUSED: RowLength", "4 DATA REFUSED: NotText", "4 DATA REFUSED: RepeatedColumn", "4 DATA REFUSED: MissingRole",
+    "4 DATA REFUSED: BadName", "4 DATA REFUSED: Amount", "4 DATA REFUSED: RepeatedArc", "4 DATA REFUSED: RepeatedNode", "5 READ FAULT", "7 ABSENT",
     "8 RANGE PASSED", "9 NO COLUMN", "9 UNKNOWN ROW", "9 NUMBER ROW", "9 MISSING ROW", "9 BOUND", "9 ROW", "9 REDUCED COST",
 ]
 
@@ -948,7 +1097,7 @@ def main():
     parser.add_argument("--keep", help="a folder for the files of scenarios that fail")
     o = parser.parse_args()
     program = os.path.abspath(o.netflow)
-    other = [os.path.abspath(os.path.join(o.oracle, "netflow")), "--stage", "2"] if o.oracle else None
+    other = [os.path.abspath(os.path.join(o.oracle, "netflow")), "--stage", "5"] if o.oracle else None
     seen, failed = Counter(), 0
     for number in range(o.first, o.first + o.count):
         words, text, files, what = scenario(o.seed, number)

@@ -35,7 +35,8 @@ ONE_CHANGE = [
     ("certificate.csv", "_VALUE_", "VALUE", 9, "REFUSED CERTDATA NO COLUMN _VALUE_"),
     ("certificate.csv", "_ITEM_,_NUMBER_", "ITEM,NUMBER", 9, "REFUSED CERTDATA NO COLUMN _ITEM_"),
     ("certificate.csv", "_NUMBER_", "_NO_", 9, "REFUSED CERTDATA NO COLUMN _NUMBER_"),
-    ("certificate.csv", "VERDICT,1,OPTIMAL,", "VERDICT,1,INFEASIBLE,", 9, "REFUSED CERTDATA UNKNOWN ROW 1"),
+    ("certificate.csv", "VERDICT,1,OPTIMAL,", "VERDICT,1,INFEASIBLE,", 9, "REFUSED CERTDATA UNKNOWN ROW 2"),
+    ("certificate.csv", "VERDICT,1,OPTIMAL,", "VERDICT,1,UNBOUNDED,", 9, "REFUSED CERTDATA UNKNOWN ROW 15"),
     ("certificate.csv", "VERDICT,1,OPTIMAL,", "VERDICT,1,optimal,", 9, "REFUSED CERTDATA UNKNOWN ROW 1"),
     ("certificate.csv", "COL,3,15,", "col,3,15,", 9, "REFUSED CERTDATA UNKNOWN ROW 4"),
     ("certificate.csv", "COL,3,15,", "COL,03,15,", 9, "REFUSED CERTDATA UNKNOWN ROW 4"),
@@ -59,22 +60,22 @@ ONE_CHANGE = [
     ("arcs.csv", "East depot,Carlow,5,INF", "East depot,Carlow,6,INF", 9, "REFUSED REDUCED COST C6"),
     ("arcs.csv", "East depot,Carlow,5,INF", "East depot,Carlow,5", 4, "DATA REFUSED ARCDATA ROW 6: RowLength"),
     ("arcs.csv", "East depot,Carlow,5,INF", "East depot,Carlow,5,INF,", 4, "DATA REFUSED ARCDATA ROW 6: RowLength"),
-    ("arcs.csv", "East depot,Carlow,5,INF", "East depot,Carlow,x,INF", 4, "DATA REFUSED ARCDATA: Form"),
-    ("arcs.csv", "East depot,Carlow,5,INF", "East depot,Carlow,5,", 4, "DATA REFUSED ARCDATA: Form"),
-    ("arcs.csv", "East depot,Carlow,5,INF", "East depot,Carlow,5,-3", 4, "DATA REFUSED ARCDATA: Form"),
-    ("arcs.csv", "East depot,Carlow,5,INF", "East depot,Carlow,1234567890,INF", 4, "DATA REFUSED ARCDATA: Form"),
-    ("arcs.csv", "East depot,Carlow,5,INF", "East depot,_EXCESS_,5,INF", 4, "DATA REFUSED ARCDATA: Form"),
-    ("arcs.csv", "East depot,Carlow,5,INF", "East depot,.,5,INF", 4, "DATA REFUSED ARCDATA: Form"),
-    ("arcs.csv", "East depot,Derry,7,12", "East depot,Carlow,7,12", 4, "DATA REFUSED ARCDATA: Form"),
+    ("arcs.csv", "East depot,Carlow,5,INF", "East depot,Carlow,x,INF", 4, "DATA REFUSED ARCDATA ROW 6 COLUMN _COST_: Amount"),
+    ("arcs.csv", "East depot,Carlow,5,INF", "East depot,Carlow,5,", *ACCEPTED),
+    ("arcs.csv", "East depot,Carlow,5,INF", "East depot,Carlow,5,-3", 4, "DATA REFUSED ARCDATA ROW 6 COLUMN _CAPAC_: CrossedBounds"),
+    ("arcs.csv", "East depot,Carlow,5,INF", "East depot,Carlow,1234567890,INF", 4, "DATA REFUSED ARCDATA ROW 6 COLUMN _COST_: Amount"),
+    ("arcs.csv", "East depot,Carlow,5,INF", "East depot,_EXCESS_,5,INF", 4, "DATA REFUSED ARCDATA ROW 6 COLUMN _TO_: ReservedName"),
+    ("arcs.csv", "East depot,Carlow,5,INF", "East depot,.,5,INF", 4, "DATA REFUSED ARCDATA ROW 6 COLUMN _TO_: BadName"),
+    ("arcs.csv", "East depot,Derry,7,12", "East depot,Carlow,7,12", 4, "DATA REFUSED ARCDATA ROW 7 COLUMN _NAME_: RepeatedArc"),
     ("arcs.csv", "_COST_", "_CAPAC_", 4, "DATA REFUSED ARCDATA: RepeatedColumn _CAPAC_"),
     ("arcs.csv", "_COST_", "_to_", 4, "DATA REFUSED ARCDATA: RepeatedColumn _to_"),
-    ("arcs.csv", "_COST_", "COST", 4, "DATA REFUSED ARCDATA: Form"),
-    ("arcs.csv", "_COST_,_CAPAC_", "_CAPAC_,_COST_", 4, "DATA REFUSED ARCDATA: Form"),
-    ("nodes.csv", "Carlow,-20", "Carlow,-21", 4, "DATA REFUSED NODEDATA: Form"),
-    ("nodes.csv", "Carlow,-20", "Derry,-20", 4, "DATA REFUSED NODEDATA: Form"),
-    ("nodes.csv", "Carlow,-20", "Carlow,-20.0", 4, "DATA REFUSED NODEDATA: Form"),
+    ("arcs.csv", "_COST_", "COST", 9, "REFUSED REDUCED COST C2"),
+    ("arcs.csv", "_COST_,_CAPAC_", "_CAPAC_,_COST_", 4, "DATA REFUSED ARCDATA ROW 3 COLUMN _COST_: Amount"),
+    ("nodes.csv", "Carlow,-20", "Carlow,-21", 9, "REFUSED CERTDATA UNKNOWN ROW 15"),
+    ("nodes.csv", "Carlow,-20", "Derry,-20", 4, "DATA REFUSED NODEDATA ROW 4 COLUMN _NODE_: RepeatedNode"),
+    ("nodes.csv", "Carlow,-20", "Carlow,-20.0", *ACCEPTED),
     ("nodes.csv", "Carlow,-20", "Carlow", 4, "DATA REFUSED NODEDATA ROW 3: RowLength"),
-    ("nodes.csv", "_SUPDEM_", "_SUPPLY_", 4, "DATA REFUSED NODEDATA: Form"),
+    ("nodes.csv", "_SUPDEM_", "_SUPPLY_", 4, "DATA REFUSED NODEDATA: MissingRole SUPDEM"),
     # the program text
     ("program.txt", "certificate;\n", "certificate; quit;\n", *ACCEPTED),
     ("program.txt", "proc netflow", "/* the plan */ PROC  NetFlow\n", *ACCEPTED),
@@ -94,12 +95,17 @@ ONE_CHANGE = [
     ("program.txt", "certificate;\n", "certificate; /* end\n", 3, "PROGRAM REFUSED AT 63: OpenComment"),
     ("program.txt", "certificate;\n", "certificate; cost 'c\n", 3, "PROGRAM REFUSED AT 68: OpenQuote"),
     ("program.txt", "nodes certdata", "nodes, certdata", 3, "PROGRAM REFUSED AT 40: BadByte"),
-    ("program.txt", " nodedata=nodes", "", 3, "PROGRAM REFUSED AT 0: Form"),
-    ("program.txt", "certificate;", "certificate thrunet;", 3, "PROGRAM REFUSED AT 0: Form"),
-    ("program.txt", "certificate;", "certificate defcost=1;", 3, "PROGRAM REFUSED AT 0: Form"),
-    ("program.txt", "certificate;\n", "certificate; cost c;\n", 3, "PROGRAM REFUSED AT 0: Form"),
+    ("program.txt", " nodedata=nodes", "", 9, "REFUSED ROW 1"),
+    ("program.txt", "certificate;", "certificate thrunet;", *ACCEPTED),
+    ("program.txt", "certificate;", "certificate defcost=1;", *ACCEPTED),
+    ("program.txt", "certificate;", "certificate maximize;", 9, "REFUSED REDUCED COST C2"),
+    ("program.txt", "certificate;", "certificate defcontype=ge;", 3, "PROGRAM REFUSED AT 0: Form"),
+    ("program.txt", "certificate;", "certificate condata=cons;", 3, "PROGRAM REFUSED AT 0: Form"),
+    ("program.txt", "certificate;\n", "certificate; cost c;\n", 4, "DATA REFUSED ARCDATA: NoColumn c"),
+    ("program.txt", "certificate;\n", "certificate; capac _capac_; supdem '_supdem_';\n", *ACCEPTED),
+    ("program.txt", "certificate;\n", "certificate; rhs b;\n", 3, "PROGRAM REFUSED AT 0: Form"),
     ("program.txt", "certdata=certificate", "certdata=elsewhere", 7, "ABSENT elsewhere"),
-    ("program.txt", "arcdata=arcs", "arcdata=nodes", 4, "DATA REFUSED ARCDATA: Form"),
+    ("program.txt", "arcdata=arcs", "arcdata=nodes", 4, "DATA REFUSED ARCDATA: MissingRole TAILNODE"),
 ]
 
 # name of a file, its bytes in place of those that it has (None: there is no such file), status, listing
@@ -252,13 +258,42 @@ def tables(t):
 
 def too_many_nodes(t):
     """1,000 nodes are taken, 1,001 are not."""
-    for count, status, listing in ((1000, 0, "ACCEPTED OPTIMAL\nTOTAL COST 0\n"), (1001, 4, "DATA REFUSED NODEDATA: Form")):
+    for count, status, listing in ((1000, 0, "ACCEPTED OPTIMAL\nTOTAL COST 0\n"), (1001, 4, "DATA REFUSED PROC ROW 0 COLUMN ROWS: LimitPassed")):
         with Copy() as c:
             c.write("arcs.csv", [["_FROM_", "_TO_", "_COST_", "_CAPAC_"]])
             c.write("nodes.csv", [["_NODE_", "_SUPDEM_"]] + [["n%d" % i, "0"] for i in range(count)])
             c.write("certificate.csv", [["_ITEM_", "_NUMBER_", "_VALUE_"], ["VERDICT", "1", "OPTIMAL"]]
                     + [["ROW", str(i), "1/3"] for i in range(1, count + 1)])
             t.expect("%d nodes" % count, t.run(c.folder), status, listing)
+
+
+# options, ARCDATA behind its header `_FROM_,_TO_,_COST_,_CAPAC_`, NODEDATA behind its header or None, the certificate's rows,
+# status, listing; `/` ends a line
+KINDS = [
+    ("", "a,b,2,3/", "a,5/b,-5/", "VERDICT,1,INFEASIBLE/ROW,1,1/ROW,2,0/", 0, "ACCEPTED INFEASIBLE\nGAP 2"),
+    ("maximize", "a,b,2,3/", "a,5/b,-5/", "VERDICT,1,INFEASIBLE/ROW,1,1/ROW,2,0/", 0, "ACCEPTED INFEASIBLE\nGAP 2"),
+    ("", "a,b,2,3/", "a,5/b,-5/", "VERDICT,1,INFEASIBLE/ROW,1,0/ROW,2,0/", 9, "REFUSED GAP 0"),
+    ("", "a,b,2,INF/", "a,5/b,-5/", "VERDICT,1,INFEASIBLE/ROW,1,1/ROW,2,0/", 9, "REFUSED COLUMN C1"),
+    ("", "a,b,2,3/", "a,5/b,-5/", "VERDICT,1,INFEASIBLE/COL,1,3/ROW,1,0/ROW,2,0/", 9, "REFUSED CERTDATA UNKNOWN ROW 2"),
+    ("", "a,b,-1,INF/b,a,0,INF/", None, "VERDICT,1,UNBOUNDED/COL,1,0/COL,2,0/RAY,1,1/RAY,2,1/", 0, "ACCEPTED UNBOUNDED\nRATE -1"),
+    ("maximize", "a,b,1,INF/b,a,0,INF/", None, "VERDICT,1,UNBOUNDED/COL,1,0/COL,2,0/RAY,1,1/RAY,2,1/", 0, "ACCEPTED UNBOUNDED\nRATE 1"),
+    ("maximize", "a,b,-1,INF/b,a,0,INF/", None, "VERDICT,1,UNBOUNDED/COL,1,0/COL,2,0/RAY,1,1/RAY,2,1/", 9, "REFUSED RATE -1"),
+    ("", "a,b,-1,INF/b,a,0,INF/", None, "VERDICT,1,UNBOUNDED/COL,1,0/COL,2,0/RAY,1,1/RAY,2,0/", 9, "REFUSED RAY ROW 1"),
+    ("", "a,b,-1,INF/b,a,0,INF/", None, "VERDICT,1,UNBOUNDED/COL,1,0/COL,2,0/RAY,1,-1/RAY,2,-1/", 9, "REFUSED RAY C1"),
+    ("maximize", "a,b,2,10/", "a,5/b,-5/", "VERDICT,1,OPTIMAL/COL,1,5/ROW,1,0/ROW,2,2/", 0, "ACCEPTED OPTIMAL\nTOTAL COST 10"),
+]
+
+
+def all_kinds(t):
+    """Certificates of the three kinds; costs and rates are told in the program's own sense."""
+    for options, arcs, nodes, rows, status, listing in KINDS:
+        with Copy() as c:
+            for name, text in (("arcs.csv", "_FROM_,_TO_,_COST_,_CAPAC_/" + arcs), ("nodes.csv", "_NODE_,_SUPDEM_/" + (nodes or "")),
+                               ("certificate.csv", "_ITEM_,_NUMBER_,_VALUE_/" + rows),
+                               ("program.txt", "proc netflow arcdata=arcs %scertdata=certificate %s;" % ("nodedata=nodes " if nodes else "", options))):
+                with open(c.path(name), "w", encoding="utf-8") as f:
+                    f.write(text.replace("/", "\n"))
+            t.expect("%s of %s" % (rows, arcs), t.run(c.folder), status, listing)
 
 
 def passes_the_range(t):
@@ -294,7 +329,7 @@ def main():
     parser = argparse.ArgumentParser(description="The built program on real files.")
     parser.add_argument("--netflow", required=True, help="the built program")
     t = Runner(parser.parse_args().netflow)
-    for part in (shipped_example, each_number, each_binding_capacity, each_two_supplies, tables, too_many_nodes, passes_the_range, outside):
+    for part in (shipped_example, each_number, each_binding_capacity, each_two_supplies, tables, too_many_nodes, all_kinds, passes_the_range, outside):
         part(t)
     print("%d passed, %d failed" % (t.passed, t.failed))
     return 1 if t.failed else 0

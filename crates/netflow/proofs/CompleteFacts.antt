@@ -1,5 +1,5 @@
 -- What a call takes in is told in one way, so a valid certificate is not refused.
-use Rattle.std.proofs.Common.{◌≡◌, ◌∙◌, ◌<◌, ◌≤◌, ◌++◌, ◌⊎◌, Bool, true, false, ℕ, List, Option, Some, None, Result, Ok, Err, if◌then◌else◌, inl, inr, length, arith, append-nil, length-append, refl, ap, subst}
+use Rattle.std.proofs.Common.{◌≡◌, ◌∙◌, ◌<◌, ◌≤◌, ◌++◌, ◌⊎◌, Bool, true, false, ℕ, List, Option, Some, None, Result, Ok, Err, if◌then◌else◌, inl, inr, length, arith, append-nil, length-append, refl, sym, ap, subst}
 use Rattle.std.proofs.lemmas.Bool.Decides.{nat_tests}
 use Rattle.std.specs.Bool.{nat_lt}
 use Rattle.std.specs.Io.KnownBytes.{Consumes, IsAtEnd}
@@ -14,15 +14,16 @@ use Rattle.nf_prob.specs.declared.cert.Cert.TheVariants as cert
 use Rattle.nf_prob.specs.declared.cert.Checked.TheVariants as checked
 use Rattle.nf_prob.specs.declared.cert.Why.{Why}
 use Rattle.nf_prob.specs.Verdict.{IsAnswer}
-use Rattle.nf_arcs.specs.Network.{network_read}
-use Rattle.nf_cert.specs.Reading.{best_read}
-use Rattle.netflow.specs.declared.sets.SetName.{SetName}
-use Rattle.netflow.specs.declared.sets.SetName.TheVariants as set
+use Rattle.nf_network.specs.ProblemOf.{Refusal as ProblemRefusal, OfData, OfRoles, problem_of}
+use Rattle.netflow.proofs.PlainFacts.{arcs_table, nodes_table}
+use Rattle.nf_cert.specs.Reading.{cert_read}
+use Rattle.nf_program.specs.declared.program.SetName.{SetName}
+use Rattle.nf_program.specs.declared.program.SetName.TheVariants as set
 use Rattle.netflow.specs.declared.refusal.Refusal.{Refusal}
 use Rattle.netflow.specs.declared.refusal.Refusal.TheVariants as refusal
 use Rattle.netflow.specs.declared.status.Status.{Status}
 use Rattle.netflow.specs.declared.status.Status.TheVariants as status
-use Rattle.netflow.specs.Data.{Sets, IsTable, bytes_of}
+use Rattle.netflow.specs.Data.{Sets, IsTable, bytes_of, data_of}
 use Rattle.netflow.specs.Headline.{AcceptsTheValid, ClaimIsProved, Claims, IsValid, Proves}
 use Rattle.netflow.specs.Lines.{accepted_lines}
 use Rattle.nf_program.specs.declared.program.Command.{Command}
@@ -31,7 +32,7 @@ use Rattle.nf_program.specs.declared.program.Program.{Program}
 use Rattle.nf_program.specs.declared.program.StmtFault.{StmtFault}
 use Rattle.nf_reader.specs.Faults.{HasFault}
 use Rattle.nf_reader.proofs.Answered.{one_program, never_both}
-use Rattle.netflow.specs.Outcome.{AreHeld, Call, Comes, FetchesSets, Input, Lists, NamesSets, PosesProblem, ReadsCertificate, ReadsProgram, Refuses, name_of}
+use Rattle.netflow.specs.Outcome.{AreHeld, Call, Comes, FetchesSets, Input, IsHeldOrNone, Lists, NamesSets, PosesProblem, ReadsCertificate, ReadsProgram, Refuses, name_of}
 use Rattle.netflow.specs.Standing.{SetNames, StandsForCheck, IsStanding, most_program}
 use Rattle.netflow.specs.Words.{IsCommand}
 use Rattle.netflow.proofs.WordFacts.{not-both}
@@ -80,6 +81,19 @@ never-many m n b h short (bytes, is, many) =
     let same = ap length (one-some (found m n) b bytes h is) in
     omega (arith, short, many, same)
 
+-- a set that may be left out
+held-there : (m : Option Held) (name : List ℕ) (o : Option (List ℕ)) → IsHeldOrNone m (Some name) o → (b : List ℕ) × HasName m name b × (o ≡ Some b)
+held-there m name None h = absurd h
+held-there m name (Some b) h = (b, h, refl)
+
+held-same : (m : Held) (n b d : Option (List ℕ)) → IsHeldOrNone (Some m) n b → IsHeldOrNone (Some m) n d → b ≡ d
+held-same m None None None h k = refl
+held-same m None None (Some d) h k = absurd k
+held-same m None (Some b) d h k = absurd h
+held-same m (Some n) None d h k = absurd h
+held-same m (Some n) (Some b) None h k = absurd k
+held-same m (Some n) (Some b) (Some d) h k = ap Some (bytes-same m n b d h k)
+
 -- the text of a table is not too long
 if-ok : {A E : Type 0} (b : Bool) (e : E) (r : Result A E) (x : A) → (if b then Err e else r) ≡ Ok x → b ≡ false
 if-ok true e r x h = cc h
@@ -92,10 +106,15 @@ table-short : (bytes : List ℕ) (g : Grid) → table_read bytes ≡ Ok g → le
 table-short bytes g h = not-longer most_bytes (length bytes) (if-ok (nat_lt most_bytes (length bytes)) _ _ g h)
 
 -- ---- what a call takes in is what its source and library tell
-has-set : (held : Option Held) (p : SetNames) (sets : Sets) → AreHeld Check held p sets → (s : SetName) → HasName held (name_of p s) (bytes_of sets s)
+has-set : (held : Option Held) (p : SetNames) (sets : Sets) → AreHeld Check held p sets → (s : SetName) → IsHeldOrNone held (name_of p s) (bytes_of sets s)
 has-set held p sets h set.Arcdata = h.arcdata
 has-set held p sets h set.Nodedata = h.nodedata
+has-set held p sets h set.Condata = tt
 has-set held p sets h set.Certdata = h.certdata refl
+has-set held p sets h set.Conin = tt
+has-set held p sets h set.Dualin = tt
+has-set held p sets h set.Sessiondata = tt
+has-set held p sets h set.Proc = tt
 
 program-same : (i : Input) (problem : LinearProgram) (certificate : Cert) (k : Claims i problem certificate) (q : Program) → ReadsProgram i Check q → q ≡ k.program
 program-same i problem certificate k q h =
@@ -109,7 +128,7 @@ some-same a b m n e h k = cc
 one-names : (p q : Program) (m n : SetNames) → p ≡ q → StandsForCheck p m → StandsForCheck q n → m ≡ n
 one-names p q m n e h k = λ i. record {
   arcdata = some-same p.proc.arcdata q.proc.arcdata m.arcdata n.arcdata (ap (λ r. r.proc.arcdata) e) h.arcdata k.arcdata i;
-  nodedata = some-same p.proc.nodedata q.proc.nodedata m.nodedata n.nodedata (ap (λ r. r.proc.nodedata) e) h.nodedata k.nodedata i;
+  nodedata = (sym h.nodedata ∙ (ap (λ r. r.proc.nodedata) e ∙ k.nodedata)) i;
   certdata = some-same p.proc.certdata q.proc.certdata m.certdata n.certdata (ap (λ r. r.proc.certdata) e) h.certdata k.certdata i;
 }
 
@@ -117,19 +136,29 @@ names-same : (i : Input) (problem : LinearProgram) (certificate : Cert) (k : Cla
 names-same i problem certificate k n h = one-names h.program k.program n k.names (program-same i problem certificate k h.program h.reads) h.stands k.stands
 
 name-same : (i : Input) (problem : LinearProgram) (certificate : Cert) (k : Claims i problem certificate) (n : SetNames) → NamesSets i Check n
-    → (s : SetName) → HasName i.held (name_of n s) (bytes_of k.sets s)
+    → (s : SetName) → IsHeldOrNone i.held (name_of n s) (bytes_of k.sets s)
 name-same i problem certificate k n h s = rw (names-same i problem certificate k n h) (has-set i.held k.names k.sets k.holds s)
 
 sets-same : (i : Input) (problem : LinearProgram) (certificate : Cert) (k : Claims i problem certificate) (sets : Sets) → FetchesSets i Check sets
     → (s : SetName) → bytes_of sets s ≡ bytes_of k.sets s
 sets-same i problem certificate k sets h s =
-    bytes-same k.library (name_of h.names s) _ _ (rw k.tells at (has-set i.held h.names sets h.held s)) (rw k.tells at (name-same i problem certificate k h.names h.named s))
+    held-same k.library (name_of h.names s) _ _ (rw k.tells at (has-set i.held h.names sets h.held s)) (rw k.tells at (name-same i problem certificate k h.names h.named s))
 
--- each set is a table
-has-table : (i : Input) (problem : LinearProgram) (certificate : Cert) (k : Claims i problem certificate) (s : SetName) → (g : Grid) × IsTable (bytes_of k.sets s) g
-has-table i problem certificate k set.Arcdata = (k.posed.arcs, k.posed.arcs_read)
-has-table i problem certificate k set.Nodedata = (k.posed.nodes, k.posed.nodes_read)
-has-table i problem certificate k set.Certdata = (k.claimed.table, k.claimed.table_is)
+-- a set that a program names is there, and is a table
+name-there : (i : Input) (problem : LinearProgram) (certificate : Cert) (k : Claims i problem certificate) (n : SetNames) → NamesSets i Check n
+    → (s : SetName) (name : List ℕ) → Some name ≡ name_of n s → (b : List ℕ) × HasName (Some k.library) name b × (bytes_of k.sets s ≡ Some b)
+name-there i problem certificate k n h s name is =
+    held-there (Some k.library) name (bytes_of k.sets s) (rw k.tells at (rw (sym is) at (name-same i problem certificate k n h s)))
+
+has-table : (i : Input) (problem : LinearProgram) (certificate : Cert) (k : Claims i problem certificate) (s : SetName) (b : List ℕ) → bytes_of k.sets s ≡ Some b → (g : Grid) × IsTable b g
+has-table i problem certificate k set.Arcdata b e = let t = arcs_table k.program (data_of k.sets) k.posed.network k.posed.posed in (t.0, subst (λ v. IsTable v t.0) (cc e) t.1)
+has-table i problem certificate k set.Nodedata b e = nodes_table k.program (data_of k.sets) k.posed.network k.posed.posed b e
+has-table i problem certificate k set.Condata b e = cc e
+has-table i problem certificate k set.Certdata b e = (k.claimed.table, subst (λ v. IsTable v k.claimed.table) (cc e) k.claimed.table_is)
+has-table i problem certificate k set.Conin b e = cc e
+has-table i problem certificate k set.Dualin b e = cc e
+has-table i problem certificate k set.Sessiondata b e = cc e
+has-table i problem certificate k set.Proc b e = cc e
 
 -- two readings of the same bytes
 read-twice : {G E : Type 0} (f : List ℕ → Result G E) (a b : List ℕ) (g h : G) → a ≡ b → f a ≡ Ok g → f b ≡ Ok h → g ≡ h
@@ -138,11 +167,11 @@ read-twice f a b g h e x y = cc
 never-both : {G E : Type 0} (f : List ℕ → Result G E) (a b : List ℕ) (g : E) (h : G) → a ≡ b → f a ≡ Err g → f b ≡ Ok h → ⊥
 never-both f a b g h e x y = cc (e, x, y)
 
-posed-twice : {E : Type 0} (f : Grid → Grid → Result LinearProgram E) (a b c d : Grid) (p q : LinearProgram) → a ≡ c → b ≡ d → f a b ≡ Ok p → f c d ≡ Ok q → p ≡ q
-posed-twice f a b c d p q e g x y = cc
+posed-twice : {P S N E : Type 0} (f : P → S → Result N E) (p q : P) (a b : S) (m n : N) → p ≡ q → a ≡ b → f p a ≡ Ok m → f q b ≡ Ok n → m ≡ n
+posed-twice f p q a b m n e g x y = cc
 
-never-posed : {E : Type 0} (f : Grid → Grid → Result LinearProgram E) (a b c d : Grid) (x : E) (q : LinearProgram) → a ≡ c → b ≡ d → f a b ≡ Err x → f c d ≡ Ok q → ⊥
-never-posed f a b c d x q e g h k = cc (e, g, h, k)
+never-posed : {P S N E : Type 0} (f : P → S → Result N E) (p q : P) (a b : S) (x : E) (n : N) → p ≡ q → a ≡ b → f p a ≡ Err x → f q b ≡ Ok n → ⊥
+never-posed f p q a b x n e g h k = cc (e, g, h, k)
 
 claimed-twice : {E : Type 0} (f : Grid → LinearProgram → Result Cert E) (a b : Grid) (p q : LinearProgram) (x y : Cert) → a ≡ b → p ≡ q → f a p ≡ Ok x → f b q ≡ Ok y → x ≡ y
 claimed-twice f a b p q x y e g h k = cc
@@ -150,19 +179,30 @@ claimed-twice f a b p q x y e g h k = cc
 never-claimed : {E : Type 0} (f : Grid → LinearProgram → Result Cert E) (a b : Grid) (p q : LinearProgram) (x : E) (y : Cert) → a ≡ b → p ≡ q → f a p ≡ Err x → f b q ≡ Ok y → ⊥
 never-claimed f a b p q x y e g h k = cc (e, g, h, k)
 
+certdata-same : (a b : List ℕ) → Some a ≡ Some b → a ≡ b
+certdata-same a b h = cc
+
+data-same : (a b : Sets) → ((s : SetName) → bytes_of a s ≡ bytes_of b s) → data_of a ≡ data_of b
+data-same a b same = λ i. record { arcdata = certdata-same a.arcdata b.arcdata (same set.Arcdata) i; nodedata = same set.Nodedata i; condata = None }
+
 problem-same : (i : Input) (problem : LinearProgram) (certificate : Cert) (k : Claims i problem certificate) (sets : Sets) (q : LinearProgram) → PosesProblem i Check sets q → q ≡ problem
 problem-same i problem certificate k sets q h =
-    let same = sets-same i problem certificate k sets h.fetches in
-    posed-twice network_read h.posed.arcs h.posed.nodes k.posed.arcs k.posed.nodes q problem
-    (read-twice table_read _ _ _ _ (same set.Arcdata) h.posed.arcs_read k.posed.arcs_read)
-    (read-twice table_read _ _ _ _ (same set.Nodedata) h.posed.nodes_read k.posed.nodes_read)
-    h.posed.posed k.posed.posed
+    let network = posed-twice problem_of h.fetches.named.program k.program (data_of sets) (data_of k.sets) h.posed.network k.posed.network
+    (program-same i problem certificate k h.fetches.named.program h.fetches.named.reads) (data-same sets k.sets (sets-same i problem certificate k sets h.fetches))
+    h.posed.posed k.posed.posed in
+    h.posed.is ∙ (ap (λ n. n.program) network ∙ sym k.posed.is)
+
+never-refused : (i : Input) (problem : LinearProgram) (certificate : Cert) (k : Claims i problem certificate) (sets : Sets) (f : FetchesSets i Check sets) (r : ProblemRefusal)
+    → problem_of f.named.program (data_of sets) ≡ Err r → ⊥
+never-refused i problem certificate k sets f r h =
+    never-posed problem_of f.named.program k.program (data_of sets) (data_of k.sets) r k.posed.network
+    (program-same i problem certificate k f.named.program f.named.reads) (data-same sets k.sets (sets-same i problem certificate k sets f)) h k.posed.posed
 
 certificate-same : (i : Input) (problem : LinearProgram) (certificate : Cert) (k : Claims i problem certificate) (q : LinearProgram) (x : Cert) → ReadsCertificate i q x → x ≡ certificate
 certificate-same i problem certificate k q x h =
     let same = sets-same i problem certificate k h.sets h.poses.fetches in
-    claimed-twice (λ t p. best_read t (length p.columns) (length p.rows)) h.claimed.table k.claimed.table q problem x certificate
-    (read-twice table_read _ _ _ _ (same set.Certdata) h.claimed.table_is k.claimed.table_is)
+    claimed-twice (λ t p. cert_read t (length p.columns) (length p.rows)) h.claimed.table k.claimed.table q problem x certificate
+    (read-twice table_read _ _ _ _ (certdata-same _ _ (same set.Certdata)) h.claimed.table_is k.claimed.table_is)
     (problem-same i problem certificate k h.sets q h.poses) h.claimed.claimed k.claimed.claimed
 
 never-answered : (p : LinearProgram) (c : Cert) (w : Why) → IsValid p c → IsAnswer p c (checked.No w) → ⊥
@@ -203,26 +243,26 @@ refused-range i problem certificate k v s l refusal.ReadFault (c, words, inl ros
 refused-range i problem certificate k v s l refusal.ReadFault (c, words, inr (n, named, rose)) = l rose
 refused-range i problem certificate k v s l (refusal.Absent name) (Run, p, set, fetches, reads, before, is, lacks, rose) = not-both i.words k.words reads.reads.words
 refused-range i problem certificate k v s l (refusal.Absent name) (Check, p, set, fetches, reads, before, is, lacks, rose) =
-    never-lacks k.library (name_of p set) _ (rw k.tells at (name-same i problem _ k p reads set)) (rw k.tells at (rw is at lacks))
-refused-range i problem certificate k v s l (refusal.TooLong set) (Run, p, fetches, reads, before, many) = not-both i.words k.words reads.reads.words
-refused-range i problem certificate k v s l (refusal.TooLong set) (Check, p, fetches, reads, before, many) =
-    let t = has-table i problem _ k set in
-    never-many k.library (name_of p set) _ (rw k.tells at (name-same i problem _ k p reads set)) (table-short _ t.0 t.1) (rw k.tells at many)
-refused-range i problem certificate k v s l (refusal.NoTable set fault) (Run, sets, here, fetches, before, e) = not-both i.words k.words fetches.named.reads.words
-refused-range i problem certificate k v s l (refusal.NoTable set fault) (Check, sets, here, fetches, before, e) =
-    let t = has-table i problem _ k set in
-    never-both table_read _ _ fault t.0 (sets-same i problem _ k sets fetches set) e t.1
+    let b = name-there i problem _ k p reads set name is in
+    never-lacks k.library name b.0 b.1 (rw k.tells at lacks)
+refused-range i problem certificate k v s l (refusal.TooLong set) (Run, p, name, fetches, reads, before, is, many) = not-both i.words k.words reads.reads.words
+refused-range i problem certificate k v s l (refusal.TooLong set) (Check, p, name, fetches, reads, before, is, many) =
+    let b = name-there i problem _ k p reads set name is in
+    let t = has-table i problem _ k set b.0 b.2 in
+    never-many k.library name b.0 b.1 (table-short b.0 t.0 t.1) (rw k.tells at many)
+refused-range i problem certificate k v s l (refusal.NoTable set fault) (Run, sets, bytes, here, fetches, before, is, e) = not-both i.words k.words fetches.named.reads.words
+refused-range i problem certificate k v s l (refusal.NoTable set fault) (Check, sets, bytes, here, fetches, before, is, e) =
+    let t = has-table i problem _ k set bytes (sym (sets-same i problem _ k sets fetches set) ∙ sym is) in
+    never-both table_read bytes bytes fault t.0 refl e t.1
+refused-range i problem certificate k v s l (refusal.NoRoles set fault) (Run, sets, fetches, t, tables, e) = not-both i.words k.words fetches.named.reads.words
+refused-range i problem certificate k v s l (refusal.NoRoles set fault) (Check, sets, fetches, t, tables, e) = never-refused i problem _ k sets fetches (OfRoles set fault) e
 refused-range i problem certificate k v s l (refusal.NoNetwork fault) (Run, sets, fetches, t, tables, e) = not-both i.words k.words fetches.named.reads.words
-refused-range i problem certificate k v s l (refusal.NoNetwork fault) (Check, sets, fetches, t, tables, e) =
-    let same = sets-same i problem _ k sets fetches in
-    never-posed network_read _ _ k.posed.arcs k.posed.nodes fault problem
-    (read-twice table_read _ _ _ _ (same set.Arcdata) tables.arcdata k.posed.arcs_read)
-    (read-twice table_read _ _ _ _ (same set.Nodedata) tables.nodedata k.posed.nodes_read) e k.posed.posed
+refused-range i problem certificate k v s l (refusal.NoNetwork fault) (Check, sets, fetches, t, tables, e) = never-refused i problem _ k sets fetches (OfData fault) e
 refused-range i problem certificate k v s l (refusal.NoCertificate fault) (sets, q, poses, table, is, e) =
     let same = sets-same i problem _ k sets poses.fetches in
-    never-claimed (λ t p. best_read t (length p.columns) (length p.rows)) table k.claimed.table q problem fault _
-    (read-twice table_read _ _ _ _ (same set.Certdata) is k.claimed.table_is) (problem-same i problem _ k sets q poses) e k.claimed.claimed
-refused-range i problem certificate k v s l (refusal.NotValid why) (q, x, reads, answered) =
+    never-claimed (λ t p. cert_read t (length p.columns) (length p.rows)) table k.claimed.table q problem fault _
+    (read-twice table_read _ _ _ _ (certdata-same _ _ (same set.Certdata)) is k.claimed.table_is) (problem-same i problem _ k sets q poses) e k.claimed.claimed
+refused-range i problem certificate k v s l (refusal.NotValid told) (q, x, why, reads, answered, is) =
     not-valid problem q x certificate why (problem-same i problem _ k reads.sets q reads.poses) (certificate-same i problem _ k q x reads) v answered
 refused-range i problem certificate k v s l (refusal.Range passed) h = tt
 
@@ -234,7 +274,8 @@ accepts-valid c status.ProgramRefused (inl (fault, (h, l))) = λ p x n k v. absu
 accepts-valid c status.ProgramRefused (inr (h, l)) = λ p x n k v. absurd (refused-range c.input p x k v n.source n.library refusal.NotStanding h)
 accepts-valid c status.DataRefused (inl (set, (h, l))) = λ p x n k v. absurd (refused-range c.input p x k v n.source n.library (refusal.TooLong set) h)
 accepts-valid c status.DataRefused (inr (inl (set, fault, (h, l)))) = λ p x n k v. absurd (refused-range c.input p x k v n.source n.library (refusal.NoTable set fault) h)
-accepts-valid c status.DataRefused (inr (inr (fault, (h, l)))) = λ p x n k v. absurd (refused-range c.input p x k v n.source n.library (refusal.NoNetwork fault) h)
+accepts-valid c status.DataRefused (inr (inr (inl (set, fault, (h, l))))) = λ p x n k v. absurd (refused-range c.input p x k v n.source n.library (refusal.NoRoles set fault) h)
+accepts-valid c status.DataRefused (inr (inr (inr (fault, (h, l))))) = λ p x n k v. absurd (refused-range c.input p x k v n.source n.library (refusal.NoNetwork fault) h)
 accepts-valid c status.ReadFault h = λ p x n k v. absurd (refused-range c.input p x k v n.source n.library refusal.ReadFault h.0)
 accepts-valid c status.WriteFault h = λ p x n k v. absurd (n.listing h.0)
 accepts-valid c status.Absent (name, (h, l)) = λ p x n k v. absurd (refused-range c.input p x k v n.source n.library (refusal.Absent name) h)

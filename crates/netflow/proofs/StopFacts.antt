@@ -1,22 +1,36 @@
 -- What a call saw, from one step to the next, and the status of each refusal.
-use Rattle.std.proofs.Common.{Result, Ok, Err, IfErr, IfOk, MatchResult, ◌≡◌, ◌∙◌, ◌≤◌, ℕ, List, [], Option, length, inl, inr, arith, refl, sym}
+use Rattle.std.proofs.Common.{Bool, true, false, if◌then◌else◌, Result, Ok, Err, IfErr, IfOk, IfSome, MatchResult, ◌≡◌, ◌∙◌, ◌≤◌, ◌<◌, ◌⊎◌, ℕ, List, [], Option, None, Some, ap, length, inl, inr, arith, refl, subst, sym}
 use Rattle.nf_model.specs.Program.{LinearProgram}
 use Rattle.nf_prob.specs.declared.cert.Cert.{Cert}
-use Rattle.nf_arcs.specs.Network.{network_read}
-use Rattle.nf_cert.specs.Reading.{best_read}
+use Rattle.nf_cert.specs.Reading.{cert_read}
+use Rattle.nf_prob.specs.Labels.{LabelList}
+use Rattle.nf_network.specs.Network.{Network}
+use Rattle.nf_network.specs.ProblemOf.{Refusal as ProblemRefusal, OfData, OfRoles, OfTable, in_data, in_roles, in_size, most_rows, problem_in, problem_of, then_with, with_nodes}
+use Rattle.nf_roles.specs.declared.columns.SetKind.TheVariants.{Arcs}
+use Rattle.nf_roles.specs.declared.fault.DataFault.{DataFault}
+use Rattle.nf_roles.specs.declared.fault.DataKind.TheVariants as kind
+use Rattle.nf_roles.specs.declared.fault.RoleFault.{RoleFault}
+use Rattle.nf_roles.specs.declared.fault.RoleFault.TheVariants as fault
+use Rattle.nf_roles.specs.Assigned.{roles_due}
+use Rattle.nf_roles.specs.Roles.{RoleColumns}
+use Rattle.nf_program.specs.declared.program.SetName.{SetName}
+use Rattle.nf_program.specs.declared.program.SetName.TheVariants.{Arcdata}
+use Rattle.nf_program.specs.declared.program.Program.{Program}
 use Rattle.nf_program.specs.declared.program.Command.{Command}
 use Rattle.nf_program.specs.declared.program.Command.TheVariants.{Run, Check}
-use Rattle.netflow.specs.declared.sets.SetName.TheVariants as set
-use Rattle.netflow.specs.Data.{AreTables, Fetches, Grids, IsTable, Sets}
+use Rattle.netflow.specs.Data.{AreTables, Grids, IsProblemOf, IsTable, IsTableOrNone, Sets, data_of}
+use Rattle.netflow.proofs.PlainFacts.{no-table, posed_by_tables, then_step, then_stop, too-many}
 use Rattle.nf_table.specs.Grid.{Grid}
 use Rattle.netflow.specs.Standing.{SetNames}
 use Rattle.nf_io.specs.Held.{Held, HasName}
 use Rattle.netflow.specs.declared.refusal.Refusal.{Refusal}
 use Rattle.netflow.specs.declared.refusal.Refusal.TheVariants as refusal
+use Rattle.netflow.specs.declared.refusal.Stop.{Stop}
+use Rattle.netflow.specs.declared.refusal.Stop.TheVariants as stop
 use Rattle.netflow.specs.Lines.{refusal_line}
-use Rattle.netflow.specs.Outcome.{AreHeld, Call, Comes, FetchesSets, Input, Lists, ReadsCertificate, Refuses}
+use Rattle.netflow.specs.Outcome.{AreHeld, Call, Comes, FetchesSets, Input, IsHeldOrNone, Lists, ReadsCertificate, Refuses}
 use Rattle.netflow.specs.Status.{refusal_status}
-use Rattle.netflow.specs.Steps.{SawFetches}
+use Rattle.netflow.specs.Steps.{IsPosed, IsStopOf, SawFetches, Stops, is_no_memory, stop_of_data, stop_of_roles, too_large}
 
 -- a later fetch is seen too
 pub saw-later : (i : Input) (holds held : Option Held) (before mid after : ℕ) (missed mids misses : List ℕ → ℕ) → SawFetches i holds before after missed misses
@@ -33,38 +47,44 @@ saw-later i holds held before mid after missed mids misses h e le les = record {
 pub saw-held : (i : Input) (held : Option Held) (name bytes : List ℕ) → i.held ≡ held → HasName held name bytes → HasName i.held name bytes
 saw-held i held name bytes e h = rw e h
 
+pub saw-or-none : (i : Input) (held : Option Held) (name bytes : Option (List ℕ)) → i.held ≡ held → IsHeldOrNone held name bytes → IsHeldOrNone i.held name bytes
+saw-or-none i held name bytes e h = rw e h
+
 -- a result by both its clauses
 pub both-cases : {A B : Type 0} (r : Result A B) {P P' : A → Type 0} {Q Q' : B → Type 0} → IfOk r P → IfErr r Q
     → ((x : A) → P x → P' x) → ((y : B) → Q y → Q' y) → MatchResult r P' Q'
 both-cases (Ok x) h k f g = f x h
 both-cases (Err y) h k f g = g y k
 
--- each command fetches both sets of the network
-pub fetches-arcs : (c : Command) → Fetches c set.Arcdata
-fetches-arcs Check = tt
-fetches-arcs Run = tt
-
-pub fetches-nodes : (c : Command) → Fetches c set.Nodedata
-fetches-nodes Check = tt
-fetches-nodes Run = tt
-
 -- the sets that the call saw are held
 pub held-there : (i : Input) (c : Command) (held : Option Held) (n : SetNames) (s : Sets) → i.held ≡ held → AreHeld c held n s → AreHeld c i.held n s
 held-there i c held n s e h = rw e h
 
 -- the tables of a run, which has none for CERTDATA
-pub run-tables : (s : Sets) (arcs nodes : Grid) → IsTable s.arcdata arcs → IsTable s.nodedata nodes → AreTables Run s (record { arcdata = arcs; nodedata = nodes; certdata = arcs })
+pub run-tables : (s : Sets) (arcs : Grid) (nodes : Option Grid) → IsTable s.arcdata arcs → IsTableOrNone s.nodedata nodes → AreTables Run s (record { arcdata = arcs; nodedata = nodes; certdata = arcs })
 run-tables s arcs nodes h k = record { arcdata = h; nodedata = k; certdata = λ e. cc e }
 
+-- the problem that is posed is that of the program
+pub poses : (c : Command) (s : Sets) (t : Grids) (p q : Program) (problem : LinearProgram) → AreTables c s t → q ≡ p → IsPosed (problem_in p t.arcdata t.nodedata None) problem → IsProblemOf q s problem
+poses c s t p q problem h e (n, due, is) =
+    record { network = n; posed = subst (λ r. problem_of r (data_of s) ≡ Ok n) (sym e) (posed_by_tables c s t p h ∙ due); is = is }
+
+-- and where it is refused, so is the call
+pub refuses : (i : Input) (c : Command) (s : Sets) (t : Grids) (p : Program) (f : FetchesSets i c s) → AreTables c s t → f.named.program ≡ p
+    → (stop : Stop) → IsStopOf (problem_in p t.arcdata t.nodedata None) stop → Stops i stop
+refuses i c s t p f h e (stop.Refused r) (OfTable set fault, due, is) = absurd (no-table p t.arcdata t.nodedata None set fault due)
+refuses i c s t p f h e (stop.Refused r) (OfRoles set fault, due, is) =
+    subst (Refuses i) (sym is) (c, s, f, t, h, subst (λ q. problem_of q (data_of s) ≡ Err (OfRoles set fault)) (sym e) (posed_by_tables c s t p h ∙ due))
+refuses i c s t p f h e (stop.Refused r) (OfData fault, due, is) =
+    subst (Refuses i) (sym is) (c, s, f, t, h, subst (λ q. problem_of q (data_of s) ≡ Err (OfData fault)) (sym e) (posed_by_tables c s t p h ∙ due))
+refuses i c s t p f h e stop.NoMemory k = tt
+
 -- a certificate was read, of the tables of a check
-pub reads-of : (i : Input) (s : Sets) (t : Grids) (problem : LinearProgram) (certificate : Cert) → FetchesSets i Check s → AreTables Check s t → network_read t.arcdata t.nodedata ≡ Ok problem
-    → best_read t.certdata (length problem.columns) (length problem.rows) ≡ Ok certificate → ReadsCertificate i problem certificate
+pub reads-of : (i : Input) (s : Sets) (t : Grids) (problem : LinearProgram) (certificate : Cert) (f : FetchesSets i Check s) → AreTables Check s t → IsProblemOf f.named.program s problem
+    → cert_read t.certdata (length problem.columns) (length problem.rows) ≡ Ok certificate → ReadsCertificate i problem certificate
 reads-of i s t problem certificate fetched tables posed claimed = record {
   sets = s;
-  poses = record {
-    fetches = fetched;
-    posed = record { arcs = t.arcdata; nodes = t.nodedata; arcs_read = tables.arcdata; nodes_read = tables.nodedata; posed = posed };
-  };
+  poses = record { fetches = fetched; posed = posed };
   claimed = record { table = t.certdata; table_is = tables.certdata refl; claimed = claimed };
 }
 
@@ -77,7 +97,8 @@ refused-comes c refusal.ReadFault h l = (h, l)
 refused-comes c (refusal.Absent name) h l = (name, (h, l))
 refused-comes c (refusal.TooLong set) h l = inl (set, (h, l))
 refused-comes c (refusal.NoTable set fault) h l = inr (inl (set, fault, (h, l)))
-refused-comes c (refusal.NoNetwork fault) h l = inr (inr (fault, (h, l)))
+refused-comes c (refusal.NoRoles set fault) h l = inr (inr (inl (set, fault, (h, l))))
+refused-comes c (refusal.NoNetwork fault) h l = inr (inr (inr (fault, (h, l))))
 refused-comes c (refusal.NoCertificate fault) h l = inl (fault, (h, l))
 refused-comes c (refusal.NotValid why) h l = inr (why, (h, l))
 refused-comes c (refusal.Range passed) h l = inl (passed, (h, l))
@@ -90,3 +111,59 @@ ok-then (Err y) h f = h
 pub err-then : {A B : Type 0} (r : Result A B) {P Q : B → Type 0} → IfErr r P → ((y : B) → P y → Q y) → IfErr r Q
 err-then (Ok x) h f = h
 err-then (Err y) h f = f y h
+
+-- what may be left out, of what holds where it is there
+pub some-holds : {A : Type 0} (o : Option A) {P : A → Type 0} → ((x : A) → o ≡ Some x → P x) → IfSome o P
+some-holds None f = tt
+some-holds (Some x) f = f x refl
+
+-- ---- how the problem is refused
+pub roles-stop : (s : SetName) (r due : Result RoleColumns RoleFault) (f : RoleFault) → r ≡ Err f → (r ≡ Err fault.NoMemory) ⊎ (r ≡ due) → IsStopOf (in_roles s due) (stop_of_roles s f)
+roles-stop s r due fault.NoMemory e h = tt
+roles-stop s r due (fault.NoColumn n) e (inl h) = absurd (cc (e, h))
+roles-stop s r due (fault.NoColumn n) e (inr h) = (OfRoles s (fault.NoColumn n), ap (in_roles s) (sym h ∙ e), refl)
+roles-stop s r due (fault.TwoRoles n) e (inl h) = absurd (cc (e, h))
+roles-stop s r due (fault.TwoRoles n) e (inr h) = (OfRoles s (fault.TwoRoles n), ap (in_roles s) (sym h ∙ e), refl)
+roles-stop s r due (fault.MissingRole q) e (inl h) = absurd (cc (e, h))
+roles-stop s r due (fault.MissingRole q) e (inr h) = (OfRoles s (fault.MissingRole q), ap (in_roles s) (sym h ∙ e), refl)
+
+pub data-stop : (r : Result Network DataFault) (f : DataFault) → (f.kind ≡ kind.NoMemory) ⊎ (r ≡ Err f) → IsStopOf (in_data r) (stop_of_data f)
+data-stop r f h = by (is_no_memory f.kind) refl h
+  where
+    by : (b : Bool) → is_no_memory f.kind ≡ b → (f.kind ≡ kind.NoMemory) ⊎ (r ≡ Err f) → IsStopOf (in_data r) (if b then stop.NoMemory else stop.Refused (refusal.NoNetwork f))
+    by true e k = tt
+    by false e (inl k) = let t = ap is_no_memory k in absurd cc
+    by false e (inr k) = (OfData f, ap in_data k, refl)
+
+pub size-stop : (n : Network) (s : Stop) → most_rows < length n.program.rows → IsStopOf too_large s → IsStopOf (in_size n) s
+size-stop n s many h = subst (λ d. IsStopOf d s) (sym (too-many n many)) h
+
+-- what is refused first is refused; and what follows an answer
+pub first-stop : {A B : Type 0} (r : Result A ProblemRefusal) (next : A → Result B ProblemRefusal) (s : Stop) → IsStopOf r s → IsStopOf (then_with r next) s
+first-stop r next (stop.Refused q) (f, due, is) = (f, then_stop r f next due, is)
+first-stop r next stop.NoMemory h = tt
+
+pub next-stop : {A B : Type 0} (r : Result A ProblemRefusal) (x : A) (next : A → Result B ProblemRefusal) (s : Stop) → r ≡ Ok x → IsStopOf (next x) s → IsStopOf (then_with r next) s
+next-stop r x next s h k = subst (λ d. IsStopOf d s) (sym (then_step r x next h)) k
+
+pub next-posed : {A : Type 0} (r : Result A ProblemRefusal) (x : A) (next : A → Result Network ProblemRefusal) (p : LinearProgram) → r ≡ Ok x → IsPosed (next x) p → IsPosed (then_with r next) p
+next-posed r x next p h k = subst (λ d. IsPosed d p) (sym (then_step r x next h)) k
+
+-- the problem of its tables, behind the roles of ARCDATA
+pub problem-posed : (p : Program) (a : Grid) (nodes : Option Grid) (r : RoleColumns) (q : LinearProgram) → in_roles Arcdata (roles_due Arcs a.header [] p.roles) ≡ Ok r
+    → IsPosed (with_nodes p r a nodes) q → IsPosed (problem_in p a nodes None) q
+unfolding problem_in
+problem-posed p a nodes r q h k = next-posed (in_roles Arcdata (roles_due Arcs a.header [] p.roles)) r (λ x. with_nodes p x a nodes) q h k
+
+pub problem-stops : (p : Program) (a : Grid) (nodes : Option Grid) (r : RoleColumns) (s : Stop) → in_roles Arcdata (roles_due Arcs a.header [] p.roles) ≡ Ok r
+    → IsStopOf (with_nodes p r a nodes) s → IsStopOf (problem_in p a nodes None) s
+unfolding problem_in
+problem-stops p a nodes r s h k = next-stop (in_roles Arcdata (roles_due Arcs a.header [] p.roles)) r (λ x. with_nodes p x a nodes) s h k
+
+pub problem-stops-first : (p : Program) (a : Grid) (nodes : Option Grid) (s : Stop) → IsStopOf (in_roles Arcdata (roles_due Arcs a.header [] p.roles)) s → IsStopOf (problem_in p a nodes None) s
+unfolding problem_in
+problem-stops-first p a nodes s k = first-stop (in_roles Arcdata (roles_due Arcs a.header [] p.roles)) (λ x. with_nodes p x a nodes) s k
+
+-- the network of its tables, once it is built
+pub sized-stop : (d : Result Network ProblemRefusal) (b : LinearProgram) (s : Stop) → IsPosed d b → ((labels : LabelList) → IsStopOf (in_size (record { program = b; labels = labels })) s) → IsStopOf (then_with d in_size) s
+sized-stop d b s (n, due, is) h = next-stop d n in_size s due (subst (λ q. IsStopOf (in_size (record { program = q; labels = n.labels })) s) is (h n.labels))

@@ -1,68 +1,80 @@
 -- What the bytes of data sets stand for: the problem that a run or a check is about, and the certificate of a check.
 -- The headline, and every later command on a problem, rests on it.
-use Rattle.std.specs.Prelude.{◌≡◌, ℕ, List, Ok, length}
+use Rattle.std.specs.Prelude.{◌≡◌, ℕ, List, Option, Some, None, Ok, length}
 use Rattle.nf_program.specs.declared.program.Command.{Command}
 use Rattle.nf_program.specs.declared.program.Command.TheVariants.{Run, Check}
+use Rattle.nf_program.specs.declared.program.Program.{Program}
+use Rattle.nf_program.specs.declared.program.SetName.{SetName}
+use Rattle.nf_program.specs.declared.program.SetName.TheVariants as set
 use Rattle.nf_table.specs.Grid.{Grid}
 use Rattle.nf_table.specs.Reading.{table_read}
 use Rattle.nf_model.specs.Program.{LinearProgram}
 use Rattle.nf_prob.specs.declared.cert.Cert.{Cert}
-use Rattle.nf_arcs.specs.Network.{network_read}
-use Rattle.nf_cert.specs.Reading.{best_read}
-use Rattle.netflow.specs.declared.sets.SetName.{SetName}
-use Rattle.netflow.specs.declared.sets.SetName.TheVariants as set
+use Rattle.nf_network.specs.Network.{Network}
+use Rattle.nf_network.specs.ProblemOf.{Sets as ProblemSets, problem_of}
+use Rattle.nf_cert.specs.Reading.{cert_read}
 
--- The bytes of the data sets of a program.
+-- The bytes of the data sets of a program. NODEDATA may be left out.
 pub record Sets : Type 0 where
   pub arcdata : List ℕ
-  pub nodedata : List ℕ
+  pub nodedata : Option (List ℕ)
   pub certdata : List ℕ
 
 -- The tables of the data sets of a program.
 pub record Grids : Type 0 where
   pub arcdata : Grid
-  pub nodedata : Grid
+  pub nodedata : Option Grid
   pub certdata : Grid
 
--- The bytes of one of the sets.
-abbrev pub bytes_of : Sets → SetName → List ℕ
-bytes_of s set.Arcdata = s.arcdata
+-- The bytes of one of the sets, where it is there.
+abbrev pub bytes_of : Sets → SetName → Option (List ℕ)
+bytes_of s set.Arcdata = Some s.arcdata
 bytes_of s set.Nodedata = s.nodedata
-bytes_of s set.Certdata = s.certdata
+bytes_of s set.Certdata = Some s.certdata
+bytes_of s _ = None
+
+-- Those of which the problem is.
+abbrev pub data_of : Sets → ProblemSets
+data_of s = record { arcdata = s.arcdata; nodedata = s.nodedata; condata = None }
 
 -- These bytes are this table.
 abbrev pub IsTable : List ℕ → Grid → Type 0
 IsTable bytes table = table_read bytes ≡ Ok table
 
--- A command fetches a set: `run` does not look at CERTDATA.
+-- A set that may be left out is this table, or there is neither.
+abbrev pub IsTableOrNone : Option (List ℕ) → Option Grid → Type 0
+IsTableOrNone None None = Unit {0}
+IsTableOrNone None (Some table) = ⊥
+IsTableOrNone (Some bytes) None = ⊥
+IsTableOrNone (Some bytes) (Some table) = IsTable bytes table
+
+-- A command fetches a set, where the program names it: `run` does not look at CERTDATA.
 abbrev pub Fetches : Command → SetName → Type 0
-Fetches Check set = Unit {0}
-Fetches Run set.Arcdata = Unit {0}
-Fetches Run set.Nodedata = Unit {0}
-Fetches Run set.Certdata = ⊥
+Fetches c set.Arcdata = Unit {0}
+Fetches c set.Nodedata = Unit {0}
+Fetches c set.Certdata = c ≡ Check
+Fetches c _ = ⊥
 
 -- The sets that a command fetches are tables.
 pub record AreTables (c : Command) (s : Sets) (t : Grids) : Type 0 where
   pub arcdata : IsTable s.arcdata t.arcdata
-  pub nodedata : IsTable s.nodedata t.nodedata
+  pub nodedata : IsTableOrNone s.nodedata t.nodedata
   pub certdata : c ≡ Check → IsTable s.certdata t.certdata
 
 -- The sets before this one are tables.
 abbrev pub AreTablesBefore : Sets → SetName → Type 0
-AreTablesBefore s set.Arcdata = Unit {0}
 AreTablesBefore s set.Nodedata = (arcs : Grid) × IsTable s.arcdata arcs
-AreTablesBefore s set.Certdata = (arcs nodes : Grid) × IsTable s.arcdata arcs × IsTable s.nodedata nodes
+AreTablesBefore s set.Certdata = (arcs : Grid) × (nodes : Option Grid) × IsTable s.arcdata arcs × IsTableOrNone s.nodedata nodes
+AreTablesBefore s _ = Unit {0}
 
--- The bytes of ARCDATA and NODEDATA stand for this problem: they are tables, and the tables are those of a network.
-pub record IsProblemOf (arcdata nodedata : List ℕ) (problem : LinearProgram) : Type 0 where
-  pub arcs : Grid
-  pub nodes : Grid
-  pub arcs_read : IsTable arcdata arcs
-  pub nodes_read : IsTable nodedata nodes
-  pub posed : network_read arcs nodes ≡ Ok problem
+-- The data sets of a program stand for this problem.
+pub record IsProblemOf (program : Program) (sets : Sets) (problem : LinearProgram) : Type 0 where
+  pub network : Network
+  pub posed : problem_of program (data_of sets) ≡ Ok network
+  pub is : problem ≡ network.program
 
--- The bytes of CERTDATA stand for this certificate of a problem: a number for each column, and one for each row.
+-- The bytes of CERTDATA stand for this certificate of a problem.
 pub record IsCertificateOf (certdata : List ℕ) (problem : LinearProgram) (certificate : Cert) : Type 0 where
   pub table : Grid
   pub table_is : IsTable certdata table
-  pub claimed : best_read table (length problem.columns) (length problem.rows) ≡ Ok certificate
+  pub claimed : cert_read table (length problem.columns) (length problem.rows) ≡ Ok certificate

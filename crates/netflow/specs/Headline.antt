@@ -38,7 +38,7 @@ pub record ClaimIsProved (c : Call) : Type 0 where
   pub reads : ReadsCertificate c.input problem certificate
   pub number : ℚ
   pub proves : Proves problem certificate number
-  pub listed : Lists c (accepted_lines (claim_line certificate number))
+  pub listed : Lists c (accepted_lines (claim_line problem.maximizes certificate number))
 
 -- A run is explained: the data sets of the program stand for this problem, and the listing is that of a run of the
 -- program on it, statement by statement. Each line is what it says: OPTIMAL that the flows of the state at which it
@@ -73,7 +73,7 @@ pub record Claims (i : Input) (problem : LinearProgram) (certificate : Cert) : T
   pub tells : i.held ≡ Some library
   pub sets : Sets
   pub holds : AreHeld Check i.held names sets
-  pub posed : IsProblemOf sets.arcdata sets.nodedata problem
+  pub posed : IsProblemOf program sets problem
   pub claimed : IsCertificateOf sets.certdata problem certificate
 
 -- A certificate is valid.

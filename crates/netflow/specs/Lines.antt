@@ -1,5 +1,5 @@
 -- The exact text of each line of the listing, each with its line feed. What was listed rests on it.
-use Rattle.std.specs.Prelude.{◌++◌, ℕ, List, [], codes, decimal}
+use Rattle.std.specs.Prelude.{◌++◌, ℕ, Bool, List, [], codes, decimal}
 use Rattle.nf_num.specs.Rational.{ℚ}
 use Rattle.nf_frac.specs.Texts.{frac_text, op_text}
 use Rattle.nf_frac.specs.declared.passed.Passed.{Passed}
@@ -14,53 +14,105 @@ use Rattle.nf_prob.specs.declared.cert.Cert.TheVariants as certificate
 use Rattle.nf_run.specs.declared.line.HaltLine.{HaltLine}
 use Rattle.nf_run.specs.declared.line.HaltLine.TheVariants as halt
 use Rattle.nf_run.specs.Lines.{halt_lines}
-use Rattle.nf_arcs.specs.declared.fault.NetworkFault.{NetworkFault}
-use Rattle.nf_arcs.specs.declared.fault.NetworkFault.TheVariants as network
+use Rattle.nf_sums.specs.Terms.{with_sign}
+use Rattle.nf_program.specs.declared.program.Role.{Role}
+use Rattle.nf_program.specs.declared.program.Role.TheVariants as role
+use Rattle.nf_program.specs.declared.program.SetName.{SetName}
+use Rattle.nf_program.specs.declared.program.SetName.TheVariants as set
+use Rattle.nf_roles.specs.declared.fault.RoleFault.{RoleFault}
+use Rattle.nf_roles.specs.declared.fault.RoleFault.TheVariants as roles
+use Rattle.nf_roles.specs.declared.fault.DataFault.{DataFault}
+use Rattle.nf_roles.specs.Kinds.{data_word}
 use Rattle.nf_cert.specs.declared.fault.CertFault.{CertFault}
 use Rattle.nf_cert.specs.declared.fault.CertFault.TheVariants as cert
 use Rattle.netflow.specs.declared.refusal.Refusal.{Refusal}
 use Rattle.netflow.specs.declared.refusal.Refusal.TheVariants as refusal
-use Rattle.netflow.specs.declared.sets.SetName.{SetName}
-use Rattle.netflow.specs.declared.sets.SetName.TheVariants as set
 
--- The word of a data set.
+-- The word of PROC by which a data set is told, or PROC itself.
 abbrev pub set_word : SetName → List ℕ
 set_word set.Arcdata = codes "ARCDATA"
 set_word set.Nodedata = codes "NODEDATA"
+set_word set.Condata = codes "CONDATA"
 set_word set.Certdata = codes "CERTDATA"
+set_word set.Conin = codes "CONIN"
+set_word set.Dualin = codes "DUALIN"
+set_word set.Sessiondata = codes "SESSIONDATA"
+set_word set.Proc = codes "PROC"
+
+-- The word of a role's statement, in its first spelling.
+abbrev pub role_word : Role → List ℕ
+role_word role.TailNode = codes "TAILNODE"
+role_word role.HeadNode = codes "HEADNODE"
+role_word role.Cost = codes "COST"
+role_word role.Capacity = codes "CAPACITY"
+role_word role.Lo = codes "LO"
+role_word role.ArcName = codes "NAME"
+role_word role.Supply = codes "SUPPLY"
+role_word role.Demand = codes "DEMAND"
+role_word role.Node = codes "NODE"
+role_word role.Supdem = codes "SUPDEM"
+role_word role.Var = codes "VAR"
+role_word role.ConKind = codes "TYPE"
+role_word role.Rhs = codes "RHS"
+role_word role.Row = codes "ROW"
+role_word role.Column = codes "COLUMN"
+role_word role.Coef = codes "COEF"
+role_word role.Id = codes "ID"
 
 -- A text that is no program: the place and the kind of its first fault.
 abbrev pub program_line : StmtFault → List ℕ
 program_line f = codes "PROGRAM REFUSED AT " ++ (decimal f.at ++ (codes ": " ++ (kind_word f.kind ++ codes "\n")))
 
--- What a certificate claims, with its number: the cost of its flows, its gap or its rate.
-abbrev pub claim_line : Cert → ℚ → HaltLine
-claim_line (certificate.Best flows duals) number = halt.Optimal number
-claim_line (certificate.Farkas duals) number = halt.Infeasible number
-claim_line (certificate.Ray flows ray) number = halt.Unbounded number
+-- What a certificate claims, with its number: the cost of its flows, its gap or its rate. Costs and rates are told in the
+-- program's own sense: a program that maximises has its costs negated.
+abbrev pub claim_line : Bool → Cert → ℚ → HaltLine
+claim_line maximizes (certificate.Best flows duals) number = halt.Optimal (with_sign maximizes number)
+claim_line maximizes (certificate.Farkas duals) number = halt.Infeasible number
+claim_line maximizes (certificate.Ray flows ray) number = halt.Unbounded (with_sign maximizes number)
+
+-- Why a certificate is not valid, with a rate in the program's own sense.
+abbrev pub in_own_words : Bool → Why → Why
+in_own_words maximizes (why.Rate rate) = why.Rate (with_sign maximizes rate)
+in_own_words maximizes w = w
 
 -- A certificate that is accepted, and what it claims.
 abbrev pub accepted_lines : HaltLine → List ℕ
 accepted_lines line = codes "ACCEPTED " ++ halt_lines line
 
+-- A data set that is refused for a reason; with a column that it names; at a row.
+abbrev pub set_line : SetName → List ℕ → List ℕ
+set_line set reason = codes "DATA REFUSED " ++ (set_word set ++ (codes ": " ++ (reason ++ codes "\n")))
+
+abbrev pub named_line : SetName → List ℕ → List ℕ → List ℕ
+named_line set reason column = codes "DATA REFUSED " ++ (set_word set ++ (codes ": " ++ (reason ++ (codes " " ++ (column ++ codes "\n")))))
+
+abbrev pub row_line : SetName → ℕ → List ℕ → List ℕ
+row_line set row reason = codes "DATA REFUSED " ++ (set_word set ++ (codes " ROW " ++ (decimal row ++ (codes ": " ++ (reason ++ codes "\n")))))
+
 -- A data set with too many bytes.
 abbrev pub too_long_line : SetName → List ℕ
-too_long_line set = codes "DATA REFUSED " ++ (set_word set ++ codes ": TooLong\n")
+too_long_line set = set_line set (codes "TooLong")
 
 -- A data set that is no table. Want of memory has no line.
 abbrev pub table_line : SetName → TableFault → List ℕ
 table_line set table.TooLong = too_long_line set
-table_line set table.NoHeader = codes "DATA REFUSED " ++ (set_word set ++ codes ": NoHeader\n")
-table_line set (table.RowLength row) = codes "DATA REFUSED " ++ (set_word set ++ (codes " ROW " ++ (decimal row ++ codes ": RowLength\n")))
-table_line set (table.NotText row) = codes "DATA REFUSED " ++ (set_word set ++ (codes " ROW " ++ (decimal row ++ codes ": NotText\n")))
-table_line set (table.RepeatedColumn name) = codes "DATA REFUSED " ++ (set_word set ++ (codes ": RepeatedColumn " ++ (name ++ codes "\n")))
+table_line set table.NoHeader = set_line set (codes "NoHeader")
+table_line set (table.RowLength row) = row_line set row (codes "RowLength")
+table_line set (table.NotText row) = row_line set row (codes "NotText")
+table_line set (table.RepeatedColumn name) = named_line set (codes "RepeatedColumn") name
 table_line set table.NoMemory = []
 
--- Tables that are no network. Want of memory has no line.
-abbrev pub network_line : NetworkFault → List ℕ
-network_line network.ArcForm = codes "DATA REFUSED ARCDATA: Form\n"
-network_line network.NodeForm = codes "DATA REFUSED NODEDATA: Form\n"
-network_line network.NoMemory = []
+-- A data set whose columns have no roles. Want of memory has no line.
+abbrev pub roles_line : SetName → RoleFault → List ℕ
+roles_line set (roles.NoColumn name) = named_line set (codes "NoColumn") name
+roles_line set (roles.TwoRoles name) = named_line set (codes "TwoRoles") name
+roles_line set (roles.MissingRole r) = named_line set (codes "MissingRole") (role_word r)
+roles_line set roles.NoMemory = []
+
+-- A cell of the data, an option or the size of the problem that is refused.
+abbrev pub data_line : DataFault → List ℕ
+data_line f =
+    codes "DATA REFUSED " ++ (set_word f.set ++ (codes " ROW " ++ (decimal f.row ++ (codes " COLUMN " ++ (f.column ++ (codes ": " ++ (data_word f.kind ++ codes "\n")))))))
 
 -- A table that is no certificate. Want of memory has no line.
 abbrev pub cert_line : CertFault → List ℕ
@@ -103,7 +155,8 @@ refusal_line refusal.ReadFault = codes "READ FAULT\n"
 refusal_line (refusal.Absent name) = codes "ABSENT " ++ (name ++ codes "\n")
 refusal_line (refusal.TooLong set) = too_long_line set
 refusal_line (refusal.NoTable set fault) = table_line set fault
-refusal_line (refusal.NoNetwork fault) = network_line fault
+refusal_line (refusal.NoRoles set fault) = roles_line set fault
+refusal_line (refusal.NoNetwork fault) = data_line fault
 refusal_line (refusal.NoCertificate fault) = cert_line fault
 refusal_line (refusal.NotValid why) = why_line why
 refusal_line (refusal.Range passed) = range_line passed

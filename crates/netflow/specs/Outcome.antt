@@ -1,5 +1,5 @@
 -- When each status comes: what a call saw before it, and what its listing got. The contract of the program rests on it.
-use Rattle.std.specs.Prelude.{◌≡◌, ◌<◌, ◌⊎◌, ◌++◌, ℕ, List, [], Option, Err, length}
+use Rattle.std.specs.Prelude.{◌≡◌, ◌<◌, ◌⊎◌, ◌++◌, ℕ, List, [], Option, Some, None, Err, length}
 use Rattle.std.specs.Io.KnownBytes.{Appends, Consumes, IsAtEnd}
 use Rattle.nf_num.specs.Rational.{ℚ}
 use Rattle.nf_frac.specs.declared.passed.Passed.{Passed}
@@ -22,20 +22,21 @@ use Rattle.nf_prob.specs.declared.cert.Why.{Why}
 use Rattle.nf_prob.specs.Arising.{CheckTerms}
 use Rattle.nf_sums.specs.Terms.{PassesIn}
 use Rattle.nf_prob.specs.Verdict.{IsAnswer}
-use Rattle.nf_arcs.specs.Network.{network_read}
-use Rattle.nf_arcs.specs.declared.fault.NetworkFault.{NetworkFault}
-use Rattle.nf_cert.specs.Reading.{best_read}
+use Rattle.nf_roles.specs.declared.fault.RoleFault.{RoleFault}
+use Rattle.nf_roles.specs.declared.fault.DataFault.{DataFault}
+use Rattle.nf_network.specs.ProblemOf.{OfRoles, OfData, problem_of}
+use Rattle.nf_cert.specs.Reading.{cert_read}
 use Rattle.nf_cert.specs.declared.fault.CertFault.{CertFault}
 use Rattle.netflow.specs.declared.refusal.Refusal.{Refusal}
 use Rattle.netflow.specs.declared.refusal.Refusal.TheVariants as refusal
-use Rattle.netflow.specs.declared.sets.SetName.{SetName}
-use Rattle.netflow.specs.declared.sets.SetName.TheVariants as set
+use Rattle.nf_program.specs.declared.program.SetName.{SetName}
+use Rattle.nf_program.specs.declared.program.SetName.TheVariants as set
 use Rattle.netflow.specs.declared.status.Status.{Status}
 use Rattle.netflow.specs.declared.status.Status.TheVariants as status
 use Rattle.nf_run.specs.declared.line.HaltLine.{HaltLine}
 use Rattle.nf_run.specs.Runs.{IsCut, IsFront, IsListing}
-use Rattle.netflow.specs.Data.{Fetches, Grids, Sets, AreTables, AreTablesBefore, IsCertificateOf, IsProblemOf, IsTable, bytes_of}
-use Rattle.netflow.specs.Lines.{accepted_lines, claim_line, refusal_line, step_range_line}
+use Rattle.netflow.specs.Data.{Fetches, Grids, Sets, AreTables, AreTablesBefore, IsCertificateOf, IsProblemOf, IsTable, bytes_of, data_of}
+use Rattle.netflow.specs.Lines.{accepted_lines, claim_line, in_own_words, refusal_line, step_range_line}
 use Rattle.netflow.specs.Standing.{IsStanding, SetNames, StandsFor, StandsForRun, most_program}
 use Rattle.netflow.specs.Words.{IsCommand}
 
@@ -75,23 +76,31 @@ pub record NamesSets (i : Input) (c : Command) (n : SetNames) : Type 0 where
   pub reads : ReadsProgram i c program
   pub stands : StandsFor c program n
 
--- The name of a data set in a program.
-abbrev pub name_of : SetNames → SetName → List ℕ
-name_of n set.Arcdata = n.arcdata
+-- The name of a data set in a program, where it has one.
+abbrev pub name_of : SetNames → SetName → Option (List ℕ)
+name_of n set.Arcdata = Some n.arcdata
 name_of n set.Nodedata = n.nodedata
-name_of n set.Certdata = n.certdata
+name_of n set.Certdata = Some n.certdata
+name_of n _ = None
+
+-- The library holds these bytes under this name, or there is neither.
+abbrev pub IsHeldOrNone : Option Held → Option (List ℕ) → Option (List ℕ) → Type 0
+IsHeldOrNone held None None = Unit {0}
+IsHeldOrNone held None (Some bytes) = ⊥
+IsHeldOrNone held (Some name) None = ⊥
+IsHeldOrNone held (Some name) (Some bytes) = HasName held name bytes
 
 -- The library holds these bytes under the names of the sets that the command fetches.
 pub record AreHeld (c : Command) (held : Option Held) (n : SetNames) (s : Sets) : Type 0 where
   pub arcdata : HasName held n.arcdata s.arcdata
-  pub nodedata : HasName held n.nodedata s.nodedata
+  pub nodedata : IsHeldOrNone held n.nodedata s.nodedata
   pub certdata : c ≡ Check → HasName held n.certdata s.certdata
 
 -- The library holds the sets before this one.
 abbrev pub AreHeldBefore : Option Held → SetNames → SetName → Type 0
-AreHeldBefore held n set.Arcdata = Unit {0}
 AreHeldBefore held n set.Nodedata = (arcs : List ℕ) × HasName held n.arcdata arcs
-AreHeldBefore held n set.Certdata = (arcs nodes : List ℕ) × HasName held n.arcdata arcs × HasName held n.nodedata nodes
+AreHeldBefore held n set.Certdata = (arcs : List ℕ) × (nodes : Option (List ℕ)) × HasName held n.arcdata arcs × IsHeldOrNone held n.nodedata nodes
+AreHeldBefore held n _ = Unit {0}
 
 -- The program was read, and these are the bytes of its data sets.
 pub record FetchesSets (i : Input) (c : Command) (s : Sets) : Type 0 where
@@ -102,7 +111,7 @@ pub record FetchesSets (i : Input) (c : Command) (s : Sets) : Type 0 where
 -- The data sets were fetched, and stand for this problem.
 pub record PosesProblem (i : Input) (c : Command) (s : Sets) (problem : LinearProgram) : Type 0 where
   pub fetches : FetchesSets i c s
-  pub posed : IsProblemOf s.arcdata s.nodedata problem
+  pub posed : IsProblemOf fetches.named.program s problem
 
 -- They stand for this problem, and for this certificate of it.
 pub record ReadsCertificate (i : Input) (problem : LinearProgram) (certificate : Cert) : Type 0 where
@@ -117,7 +126,7 @@ pub record RunsOn (i : Input) (program : Program) (problem : LinearProgram) : Ty
   pub stands : StandsForRun program names
   pub sets : Sets
   pub held : AreHeld Run i.held names sets
-  pub posed : IsProblemOf sets.arcdata sets.nodedata problem
+  pub posed : IsProblemOf program sets problem
 
 -- ---- answers
 -- The certificate is accepted: it is valid, with this number, and proves what the line says.
@@ -127,7 +136,7 @@ pub record Accepts (i : Input) (line : HaltLine) : Type 0 where
   pub reads : ReadsCertificate i problem certificate
   pub number : ℚ
   pub valid : IsAnswer problem certificate (checked.Yes number)
-  pub told : line ≡ claim_line certificate number
+  pub told : line ≡ claim_line problem.maximizes certificate number
 
 -- The cause of each refusal, and what was met before it.
 abbrev pub Refuses : Input → Refusal → Type 0
@@ -140,17 +149,19 @@ Refuses i refusal.NotStanding = (c : Command) × (p : Program) × ReadsProgram i
 -- the count of the source's faults rose, or, for a program that was read, that of failed fetches
 Refuses i refusal.ReadFault = (c : Command) × IsCommand c i.words × (Rose i.source_faults i.source_faults_after ⊎ ((n : SetNames) × NamesSets i c n × Rose i.fetch_faults i.fetch_faults_after))
 -- the library lacks a data set of the program, and has those before it
-Refuses i (refusal.Absent name) = (c : Command) × (n : SetNames) × (s : SetName) × Fetches c s × NamesSets i c n × AreHeldBefore i.held n s × (name ≡ name_of n s) × LacksName i.held name × Rose (i.misses name) (i.misses_after name)
+Refuses i (refusal.Absent name) = (c : Command) × (n : SetNames) × (s : SetName) × Fetches c s × NamesSets i c n × AreHeldBefore i.held n s × (Some name ≡ name_of n s) × LacksName i.held name × Rose (i.misses name) (i.misses_after name)
 -- a data set of the program has too many bytes, and those before it are held
-Refuses i (refusal.TooLong s) = (c : Command) × (n : SetNames) × Fetches c s × NamesSets i c n × AreHeldBefore i.held n s × HasTooMany i.held (name_of n s)
+Refuses i (refusal.TooLong s) = (c : Command) × (n : SetNames) × (name : List ℕ) × Fetches c s × NamesSets i c n × AreHeldBefore i.held n s × (Some name ≡ name_of n s) × HasTooMany i.held name
 -- this is the first fault of the first data set that is no table
-Refuses i (refusal.NoTable s fault) = (c : Command) × (sets : Sets) × Fetches c s × FetchesSets i c sets × AreTablesBefore sets s × (table_read (bytes_of sets s) ≡ Err fault)
--- all are tables, and those of ARCDATA and NODEDATA are no network
-Refuses i (refusal.NoNetwork fault) = (c : Command) × (sets : Sets) × FetchesSets i c sets × (t : Grids) × AreTables c sets t × (network_read t.arcdata t.nodedata ≡ Err fault)
+Refuses i (refusal.NoTable s fault) = (c : Command) × (sets : Sets) × (bytes : List ℕ) × Fetches c s × FetchesSets i c sets × AreTablesBefore sets s × (Some bytes ≡ bytes_of sets s) × (table_read bytes ≡ Err fault)
+-- all are tables, and this is the first fault of the columns of ARCDATA and NODEDATA
+Refuses i (refusal.NoRoles s fault) = (c : Command) × (sets : Sets) × (fetches : FetchesSets i c sets) × (t : Grids) × AreTables c sets t × (problem_of fetches.named.program (data_of sets) ≡ Err (OfRoles s fault))
+-- the columns have their roles, and this is the first fault of the data, or of the size of the problem
+Refuses i (refusal.NoNetwork fault) = (c : Command) × (sets : Sets) × (fetches : FetchesSets i c sets) × (t : Grids) × AreTables c sets t × (problem_of fetches.named.program (data_of sets) ≡ Err (OfData fault))
 -- the problem is there, and this is the first fault of the certificate's table
-Refuses i (refusal.NoCertificate fault) = (sets : Sets) × (problem : LinearProgram) × PosesProblem i Check sets problem × (table : Grid) × IsTable sets.certdata table × (best_read table (length problem.columns) (length problem.rows) ≡ Err fault)
+Refuses i (refusal.NoCertificate fault) = (sets : Sets) × (problem : LinearProgram) × PosesProblem i Check sets problem × (table : Grid) × IsTable sets.certdata table × (cert_read table (length problem.columns) (length problem.rows) ≡ Err fault)
 -- problem and certificate are there, and this is the first place where it is not valid
-Refuses i (refusal.NotValid why) = (problem : LinearProgram) × (certificate : Cert) × ReadsCertificate i problem certificate × IsAnswer problem certificate (checked.No why)
+Refuses i (refusal.NotValid told) = (problem : LinearProgram) × (certificate : Cert) × (why : Why) × ReadsCertificate i problem certificate × IsAnswer problem certificate (checked.No why) × (told ≡ in_own_words problem.maximizes why)
 -- problem and certificate are there, and this operation of their check passes 128 bits
 Refuses i (refusal.Range passed) = (problem : LinearProgram) × (certificate : Cert) × ReadsCertificate i problem certificate × PassesIn (CheckTerms problem certificate) passed
 
@@ -183,7 +194,7 @@ Comes c status.Finished =
     ⊎ ((program : Program) × (problem : LinearProgram) × RunsOn c.input program problem × (text : List ℕ) × IsListing problem program.proc.session program.acts text × Lists c text)
 Comes c status.Usage = Refused c refusal.Usage
 Comes c status.ProgramRefused = ((fault : StmtFault) × Refused c (refusal.NoProgram fault)) ⊎ Refused c refusal.NotStanding
-Comes c status.DataRefused = ((s : SetName) × Refused c (refusal.TooLong s)) ⊎ ((s : SetName) × (fault : TableFault) × Refused c (refusal.NoTable s fault)) ⊎ ((fault : NetworkFault) × Refused c (refusal.NoNetwork fault))
+Comes c status.DataRefused = ((s : SetName) × Refused c (refusal.TooLong s)) ⊎ ((s : SetName) × (fault : TableFault) × Refused c (refusal.NoTable s fault)) ⊎ ((s : SetName) × (fault : RoleFault) × Refused c (refusal.NoRoles s fault)) ⊎ ((fault : DataFault) × Refused c (refusal.NoNetwork fault))
 Comes c status.ReadFault = Refused c refusal.ReadFault
 Comes c status.Absent = (name : List ℕ) × Refused c (refusal.Absent name)
 -- an operation of the check passes 128 bits, or one of the run, behind the listing of the statements before

@@ -1,37 +1,51 @@
 -- The standing part of the language: which programs of the grammar a command takes today. What a program names, and so
 -- what is fetched, rests on it.
-use Rattle.std.specs.Prelude.{◌≡◌, ◌==◌, ℕ, Bool, true, false, ◌||◌, not, List, [], Some, is_some}
+use Rattle.std.specs.Prelude.{◌≡◌, ◌==◌, ℕ, Bool, true, false, ◌||◌, not, List, [], Option, Some, is_some}
+use Rattle.std.specs.List.{list_any}
 use Rattle.nf_program.specs.declared.program.Command.{Command}
 use Rattle.nf_program.specs.declared.program.Command.TheVariants.{Run, Check}
 use Rattle.nf_program.specs.declared.program.ProcOptions.{ProcOptions}
 use Rattle.nf_program.specs.declared.program.Program.{Program}
 use Rattle.nf_program.specs.declared.program.PriceType.{PriceType}
 use Rattle.nf_program.specs.declared.program.PriceType.TheVariants.{First, Best, Bland}
+use Rattle.nf_program.specs.declared.program.Role.{Role}
+use Rattle.nf_program.specs.declared.program.Role.TheVariants as role
 use Rattle.nf_program.specs.declared.program.SessionOptions.{SessionOptions}
 use Rattle.nf_run.specs.Stops.{are_standing}
 
--- The names of the data sets of a program. `run` has none for CERTDATA=.
+-- The names of the data sets of a program. NODEDATA= may be left out, and `run` has none for CERTDATA=.
 pub record SetNames : Type 0 where
   pub arcdata : List ℕ
-  pub nodedata : List ℕ
+  pub nodedata : Option (List ℕ)
   pub certdata : List ℕ
 
--- PROC says more of the network than its arcs and nodes: side rows, another sense, defaults, or supplies of its own.
-abbrev pub says_more : ProcOptions → Bool
-says_more p =
-    is_some p.condata || p.sparsecondata || p.thrunet || p.maximize
-    || is_some p.defcost || is_some p.defminflow || is_some p.defcapacity || is_some p.defcontype
-    || is_some p.source || is_some p.sink || is_some p.supply || is_some p.demand
+-- A role of CONDATA alone.
+abbrev pub is_of_constraints : Role → Bool
+is_of_constraints role.Var = true
+is_of_constraints role.ConKind = true
+is_of_constraints role.Rhs = true
+is_of_constraints role.Row = true
+is_of_constraints role.Column = true
+is_of_constraints role.Coef = true
+is_of_constraints _ = false
 
--- `check` takes a program whose PROC names ARCDATA=, NODEDATA= and CERTDATA=, and says no more of the network, and that
--- has no role statement. WARM, CONIN=, DUALIN=, SESSIONDATA=, output options and session options may stand there: they
--- are not looked at. Of acts it has a QUIT or none, by the grammar.
+-- One of these role statements is of CONDATA alone.
+abbrev pub have_constraints : List (Role × List (List ℕ)) → Bool
+have_constraints statements = list_any (λ s. is_of_constraints s.0) statements
+
+-- A program speaks of side constraints: by an option of PROC, or by a role statement.
+abbrev pub says_constraints : Program → Bool
+says_constraints p =
+    is_some p.proc.condata || p.proc.sparsecondata || is_some p.proc.defcontype || have_constraints p.roles
+
+-- `check` takes a program whose PROC names ARCDATA= and CERTDATA= and that does not speak of side constraints. WARM,
+-- CONIN=, DUALIN=, SESSIONDATA=, output options and session options may stand there: they are not looked at. Of acts it
+-- has a QUIT or none, by the grammar.
 pub record StandsForCheck (p : Program) (n : SetNames) : Type 0 where
   pub arcdata : p.proc.arcdata ≡ Some n.arcdata
-  pub nodedata : p.proc.nodedata ≡ Some n.nodedata
+  pub nodedata : p.proc.nodedata ≡ n.nodedata
   pub certdata : p.proc.certdata ≡ Some n.certdata
-  pub plain : says_more p.proc ≡ false
-  pub roles : p.roles ≡ []
+  pub network : says_constraints p ≡ false
 
 -- The rule FIRST.
 abbrev pub is_first : PriceType → Bool
@@ -51,17 +65,15 @@ asks_more o =
     not (o.maxit2 == 1000000) || not (o.pause1 == 0) || not (o.pause2 == 0)
     || o.feasiblepause1 || o.feasiblepause2 || o.endpause1 || o.future1 || o.future2 || not (is_first o.pricetype2)
 
--- `run` takes a program whose PROC names ARCDATA= and NODEDATA=, says no more of the network, and has of session options
--- MAXIT1= and PRICETYPE1= alone; that has no role statement, and of acts RUN and QUIT alone. CERTDATA= may stand there:
--- it is not looked at.
+-- `run` takes a program whose PROC names ARCDATA= and has of session options MAXIT1= and PRICETYPE1= alone, that does not
+-- speak of side constraints, and has of acts RUN and QUIT alone. CERTDATA= may stand there: it is not looked at.
 pub record StandsForRun (p : Program) (n : SetNames) : Type 0 where
   pub arcdata : p.proc.arcdata ≡ Some n.arcdata
-  pub nodedata : p.proc.nodedata ≡ Some n.nodedata
+  pub nodedata : p.proc.nodedata ≡ n.nodedata
   pub certdata : n.certdata ≡ []
-  pub plain : says_more p.proc ≡ false
+  pub network : says_constraints p ≡ false
   pub tables : asks_tables p.proc ≡ false
   pub session : asks_more p.proc.session ≡ false
-  pub roles : p.roles ≡ []
   pub acts : are_standing p.acts ≡ true
 
 -- The command takes the program, which names these data sets.

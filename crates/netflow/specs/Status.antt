@@ -28,6 +28,7 @@ refusal_status refusal.ReadFault = status.ReadFault
 refusal_status (refusal.Absent name) = status.Absent
 refusal_status (refusal.TooLong set) = status.DataRefused
 refusal_status (refusal.NoTable set fault) = status.DataRefused
+refusal_status (refusal.NoRoles set fault) = status.DataRefused
 refusal_status (refusal.NoNetwork fault) = status.DataRefused
 refusal_status (refusal.NoCertificate fault) = status.CheckRefused
 refusal_status (refusal.NotValid why) = status.CheckRefused

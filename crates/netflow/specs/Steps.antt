@@ -1,8 +1,22 @@
 -- How a step of a call ends it: the clauses of the functions that `netflow` is made of rest on it.
-use Rattle.std.specs.Prelude.{◌≡◌, ◌≤◌, ℕ, List, Option, if◌then◌else◌}
+use Rattle.std.specs.Prelude.{◌≡◌, ◌≤◌, ℕ, Bool, true, false, List, Option, Some, None, Result, Ok, Err, if◌then◌else◌}
+use Rattle.std.specs.Borrow.{Bor}
+use Rattle.std.specs.declared.vec.Vec.{Vec}
+use Rattle.std.specs.declared.alloc.Global.{Global}
 use Rattle.nf_io.specs.Held.{Held}
 use Rattle.nf_program.specs.declared.program.StmtFault.{StmtFault}
 use Rattle.nf_reader.specs.Gives.{is_memory}
+use Rattle.nf_model.specs.Program.{LinearProgram}
+use Rattle.nf_network.specs.Network.{Network}
+use Rattle.nf_network.specs.ProblemOf.{Refusal as ProblemRefusal, OfTable, OfRoles, OfData, size_fault}
+use Rattle.nf_roles.specs.declared.fault.DataFault.{DataFault}
+use Rattle.nf_roles.specs.declared.fault.RoleFault.{RoleFault}
+use Rattle.nf_roles.specs.declared.fault.RoleFault.TheVariants as roles
+use Rattle.nf_program.specs.declared.program.SetName.{SetName}
+use Rattle.nf_roles.specs.declared.fault.DataKind.{DataKind}
+use Rattle.nf_roles.specs.declared.fault.DataKind.TheVariants as data_kind
+use Rattle.netflow.specs.declared.program.SetNames.{SetNames as NamesOfCode}
+use Rattle.netflow.specs.declared.refusal.Refusal.{Refusal}
 use Rattle.netflow.specs.declared.refusal.Stop.{Stop}
 use Rattle.netflow.specs.declared.refusal.Stop.TheVariants as stop
 use Rattle.netflow.specs.declared.refusal.Refusal.TheVariants as refusal
@@ -12,13 +26,21 @@ use Rattle.netflow.specs.Data.{Grids, Sets}
 use Rattle.netflow.specs.Outcome.{Input, Refuses}
 use Rattle.netflow.specs.Standing.{SetNames}
 
--- The names of the code, which are these bytes.
-abbrev pub names_of : List ℕ → List ℕ → List ℕ → SetNames
-names_of a n c = record { arcdata = a; nodedata = n; certdata = c }
+-- A name that the code may hold, and bytes that it may hold.
+abbrev pub lent_name : Option (Bor (List ℕ)) → Option (List ℕ)
+lent_name None = None
+lent_name (Some name) = Some name.now
 
--- The bytes that the code holds, and its tables.
+abbrev pub bytes_in : Option (Vec ℕ Global) → Option (List ℕ)
+bytes_in None = None
+bytes_in (Some bytes) = Some bytes.items
+
+-- The names of the code, the bytes that it holds, and its tables.
+abbrev pub names_of : NamesOfCode → SetNames
+names_of n = record { arcdata = n.arcdata.now; nodedata = lent_name n.nodedata; certdata = n.certdata.now }
+
 abbrev pub sets_of : SetsOfCode → Sets
-sets_of s = record { arcdata = s.arcdata.items; nodedata = s.nodedata.items; certdata = s.certdata.items }
+sets_of s = record { arcdata = s.arcdata.items; nodedata = bytes_in s.nodedata; certdata = s.certdata.items }
 
 abbrev pub grids_of : Tables → Grids
 grids_of t = record { arcdata = t.arcdata; nodedata = t.nodedata; certdata = t.certdata }
@@ -27,6 +49,39 @@ grids_of t = record { arcdata = t.arcdata; nodedata = t.nodedata; certdata = t.c
 abbrev pub Stops : Input → Stop → Type 0
 Stops i (stop.Refused r) = Refuses i r
 Stops i stop.NoMemory = Unit {0}
+
+-- A problem is the one that is due.
+abbrev pub IsPosed : Result Network ProblemRefusal → LinearProgram → Type 0
+IsPosed due p = (n : Network) × (due ≡ Ok n) × (p ≡ n.program)
+
+-- A refusal of the problem is told as a refusal of the call.
+abbrev pub refusal_of : ProblemRefusal → Refusal
+refusal_of (OfTable s f) = refusal.NoTable s f
+refusal_of (OfRoles s f) = refusal.NoRoles s f
+refusal_of (OfData f) = refusal.NoNetwork f
+
+-- Faults of roles and of data end the call: they are told, or memory ran out.
+abbrev pub stop_of_roles : SetName → RoleFault → Stop
+stop_of_roles s roles.NoMemory = stop.NoMemory
+stop_of_roles s (roles.NoColumn n) = stop.Refused (refusal.NoRoles s (roles.NoColumn n))
+stop_of_roles s (roles.TwoRoles n) = stop.Refused (refusal.NoRoles s (roles.TwoRoles n))
+stop_of_roles s (roles.MissingRole r) = stop.Refused (refusal.NoRoles s (roles.MissingRole r))
+
+abbrev pub is_no_memory : DataKind → Bool
+is_no_memory data_kind.NoMemory = true
+is_no_memory _ = false
+
+abbrev pub stop_of_data : DataFault → Stop
+stop_of_data f = if is_no_memory f.kind then stop.NoMemory else stop.Refused (refusal.NoNetwork f)
+
+-- The refusal of a problem of too many rows.
+abbrev pub too_large : Result Network ProblemRefusal
+too_large = Err (OfData size_fault)
+
+-- A call stops with the refusal that is due, or wants memory.
+abbrev pub IsStopOf : {A : Type 0} → Result A ProblemRefusal → Stop → Type 0
+IsStopOf due (stop.Refused r) = (f : ProblemRefusal) × (due ≡ Err f) × (r ≡ refusal_of f)
+IsStopOf due stop.NoMemory = Unit {0}
 
 -- A text that is no program ends the call: its fault is told, or memory ran out.
 abbrev pub stop_of : StmtFault → Stop

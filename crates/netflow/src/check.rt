@@ -1,51 +1,37 @@
 //! The check of a certificate.
-ghost use Rattle.std.specs.Prelude.{◌≡◌, ◌<◌, length, Ok, Err, IfOk, IfErr, MatchResult};
-ghost use Rattle.nf_arcs.specs.Network.{network_read};
-ghost use Rattle.nf_cert.specs.Reading.{best_read};
-ghost use Rattle.nf_model.specs.Program.{LinearProgram};
+ghost use Rattle.std.specs.Prelude.{◌≡◌, ◌<◌, length, Ok, Err, IfOk, IfErr, IfSome, MatchResult};
+ghost use Rattle.nf_frac.specs.Amounts.{IsAmount};
+ghost use Rattle.nf_sums.specs.Terms.{with_sign};
+ghost use Rattle.nf_cert.specs.Reading.{cert_read};
 ghost use Rattle.nf_prob.specs.Verdict.{HasLengths, IsAnswer};
 ghost use Rattle.nf_prob.specs.declared.cert.Cert.{Cert as Certificate};
 ghost use Rattle.nf_prob.specs.declared.cert.Checked.TheVariants.{Yes};
-ghost use Rattle.nf_program.specs.declared.program.Command.{Command as Commands};
-ghost use Rattle.netflow.specs.Lines.{claim_line};
+ghost use Rattle.netflow.specs.Lines.{claim_line, in_own_words};
 ghost use Rattle.netflow.specs.Data.{AreTables, Grids, IsTable, Sets as SetBytes};
 ghost use Rattle.netflow.specs.Outcome.{Accepts, FetchesSets, Input, PosesProblem, ReadsCertificate};
 ghost use Rattle.netflow.specs.Steps.{Stops, grids_of};
 
+use crate::problem::pose;
 use crate::refusal::{Refusal, Stop};
 use crate::sets::Tables;
-use nf_arcs::{NetworkFault, network};
-use nf_cert::{CertFault, read_best};
+use nf_cert::{CertFault, read_cert};
 use nf_frac::{Frac, Steps};
-use nf_prob::{Cert, Checked, Problem, verify};
+use nf_prob::{Cert, Checked, Problem, Why, verify};
 use nf_run::HaltLine;
-use nf_stmt::Command;
+use nf_stmt::{Command, Program};
 use nf_table::Table;
 use std::alloc::Global;
 use std::marker::Brand;
 use std::sync::ledger::{Blank, Ledger};
 
-/// The problem of two tables, which are let go. It stops with `NoNetwork` where they are no network.
-pub(crate) fn pose(alloc: Global, arcs: Table, nodes: Table) -> Result<Problem, Stop>
-    ensures ok { IfOk result (λ p. network_read arcs nodes ≡ Ok p) }
-    ensures stops { IfErr result (λ stop. (i : Input) (c : Commands) (s : SetBytes) (t : Grids) →
-        FetchesSets i c s → AreTables c s t → t.arcdata ≡ arcs → t.nodedata ≡ nodes → Stops i stop) }
-{
-    match network(alloc, &arcs, &nodes) {
-        Ok(problem) => Ok(problem),
-        Err(NetworkFault::NoMemory) => Err(Stop::NoMemory),
-        Err(fault) => Err(Stop::Refused(Refusal::NoNetwork(fault))),
-    }
-}
-
 // The certificate that a table claims for a problem. The table is let go.
 fn claim(alloc: Global, table: Table, problem: &Problem) -> Result<Cert, Stop>
-    ensures ok { IfOk result (λ c. best_read table (length problem.now.columns) (length problem.now.rows) ≡ Ok c) }
+    ensures ok { IfOk result (λ c. cert_read table (length problem.now.columns) (length problem.now.rows) ≡ Ok c) }
     ensures lengths { IfOk result (HasLengths problem.now) }
     ensures stops { IfErr result (λ stop. (i : Input) (s : SetBytes) →
         PosesProblem i Command.Check s problem.now → IsTable s.certdata table → Stops i stop) }
 {
-    match read_best(alloc, &table, problem) {
+    match read_cert(alloc, &table, problem) {
         Ok(certificate) => Ok(certificate),
         Err(CertFault::NoMemory) => Err(Stop::NoMemory),
         Err(fault) => Err(Stop::Refused(Refusal::NoCertificate(fault))),
@@ -73,7 +59,7 @@ fn verdict_from<L: Ledger>(
     };
     match checked {
         Checked::Yes(number) => Ok(number),
-        Checked::No(why) => Err(Stop::Refused(Refusal::NotValid(why))),
+        Checked::No(why) => Err(Stop::Refused(Refusal::NotValid(in_own_words(problem, why)))),
     }
 }
 
@@ -86,33 +72,57 @@ fn verdict(problem: &Problem, certificate: &Cert) -> Result<Frac, Stop>
     verdict_from::<Brand>(problem, certificate, Blank::new(1))
 }
 
-// What a certificate claims, with its number.
-fn claim_line(certificate: &Cert, number: Frac) -> HaltLine
-    ensures { result ≡ claim_line certificate.now number }
+// What a certificate of a problem claims, with its number: a cost and a rate in the program's own sense.
+fn claim_line(problem: &Problem, certificate: &Cert, number: Frac) -> HaltLine
+    ensures { result ≡ claim_line problem.now.maximizes certificate.now number }
 {
     match certificate {
-        Cert::Best { .. } => HaltLine::Optimal(number),
+        Cert::Best { .. } => HaltLine::Optimal(in_own_sense(problem, number)),
         Cert::Farkas { .. } => HaltLine::Infeasible(number),
-        Cert::Ray { .. } => HaltLine::Unbounded(number),
+        Cert::Ray { .. } => HaltLine::Unbounded(in_own_sense(problem, number)),
+    }
+}
+
+// A number of the minimised problem in the program's own sense.
+fn in_own_sense(problem: &Problem, number: Frac) -> Frac
+    ensures { result ≡ with_sign problem.now.maximizes number }
+{
+    if problem.maximize() {
+        number.neg()
+    } else {
+        number
+    }
+}
+
+// Why a certificate is not valid, with a rate in the program's own sense.
+fn in_own_words(problem: &Problem, why: Why) -> Why
+    ensures { result ≡ in_own_words problem.now.maximizes why }
+{
+    match why {
+        Why::Rate(rate) => Why::Rate(in_own_sense(problem, rate)),
+        _ => why,
     }
 }
 
 /// What the certificate that the tables claim proves, where it is accepted. Each table is let go once it is read.
 ///
-/// It stops with `NoNetwork` where ARCDATA and NODEDATA are no network, then with `NoCertificate` where CERTDATA is no
+/// It stops as `pose` does where ARCDATA and NODEDATA are no problem, then with `NoCertificate` where CERTDATA is no
 /// certificate of it, then with `NotValid` at the first place where that is not valid, or with `Range` where a number of
 /// the check passes 128 bits. The steps of the check are counted, and the count is let go.
-pub(crate) fn judge(alloc: Global, tables: Tables) -> Result<HaltLine, Stop>
-    ensures ok { IfOk result (λ line. (i : Input) (s : SetBytes) → FetchesSets i Command.Check s → AreTables Command.Check s (grids_of tables) → Accepts i line) }
-    ensures stops { IfErr result (λ stop. (i : Input) (s : SetBytes) → FetchesSets i Command.Check s → AreTables Command.Check s (grids_of tables) → Stops i stop) }
+pub(crate) fn judge(alloc: Global, program: &Program, tables: Tables) -> Result<HaltLine, Stop>
+    requires demand { IfSome program.now.proc.demand IsAmount }
+    ensures ok { IfOk result (λ line. (i : Input) (s : SetBytes) (f : FetchesSets i Command.Check s) → f.named.program ≡ program.now →
+        AreTables Command.Check s (grids_of tables) → Accepts i line) }
+    ensures stops { IfErr result (λ stop. (i : Input) (s : SetBytes) (f : FetchesSets i Command.Check s) → f.named.program ≡ program.now →
+        AreTables Command.Check s (grids_of tables) → Stops i stop) }
 {
     let Tables {
         arcdata,
         nodedata,
         certdata,
     } = tables;
-    let problem = pose(alloc, arcdata, nodedata)?;
+    let problem = pose(alloc, program, arcdata, nodedata)?;
     let certificate = claim(alloc, certdata, &problem)?;
     let number = verdict(&problem, &certificate)?;
-    Ok(claim_line(&certificate, number))
+    Ok(claim_line(&problem, &certificate, number))
 }

@@ -1,15 +1,15 @@
 //! The lines of the listing, each with its line feed. `AllocError` where there is no memory for a line.
 ghost use Rattle.std.specs.Prelude.{◌≡◌, ◌++◌, IfOk, Some, codes};
-ghost use Rattle.netflow.specs.Lines.{accepted_lines, cert_line, network_line, operation_text, program_line, range_line, step_range_line, table_line, too_long_line, why_line};
+ghost use Rattle.netflow.specs.Lines.{accepted_lines, cert_line, data_line, named_line, operation_text, program_line, range_line, roles_line, row_line, set_line, step_range_line, table_line, too_long_line, why_line};
 
-use crate::sets::SetName;
-use nf_arcs::NetworkFault;
+use crate::set_words::{role_word, set_word};
 use nf_cert::CertFault;
 use nf_frac::Passed;
 use nf_io::Text;
 use nf_prob::Why;
+use nf_roles::{DataFault, RoleFault};
 use nf_run::HaltLine;
-use nf_stmt::StmtFault;
+use nf_stmt::{SetName, StmtFault};
 use nf_table::TableFault;
 use std::alloc::{AllocError, Global};
 use std::fmt;
@@ -57,9 +57,42 @@ pub(crate) fn accepted(alloc: Global, line: HaltLine) -> Result<Text, AllocError
 pub(crate) fn too_long(alloc: Global, set: SetName) -> Result<Text, AllocError>
     ensures { IfOk result (λ t. t ≡ too_long_line set) }
 {
+    in_set(alloc, set, "TooLong")
+}
+
+// A data set is refused for this reason.
+fn in_set(alloc: Global, set: SetName, reason: &str) -> Result<Text, AllocError>
+    ensures { IfOk result (λ t. t ≡ set_line set reason.now) }
+{
+    let word = set_word(set);
     plain(
         alloc,
-        format!(in alloc; "DATA REFUSED {set}: TooLong\n")?.as_str(),
+        format!(in alloc; "DATA REFUSED {word}: {reason}\n")?.as_str(),
+    )
+}
+
+// A data set is refused for this reason, which names a column or a role.
+fn in_set_named(alloc: Global, set: SetName, reason: &str, name: &[u8]) -> Result<Text, AllocError>
+    ensures { IfOk result (λ t. t ≡ named_line set reason.now name.now) }
+{
+    let word = set_word(set);
+    let mut text = plain(
+        alloc,
+        format!(in alloc; "DATA REFUSED {word}: {reason} ")?.as_str(),
+    )?;
+    text.push(name)?;
+    text.push(b"\n")?;
+    Ok(text)
+}
+
+// A row of a data set is refused for this reason.
+fn in_row(alloc: Global, set: SetName, row: u32, reason: &str) -> Result<Text, AllocError>
+    ensures { IfOk result (λ t. t ≡ row_line set row reason.now) }
+{
+    let word = set_word(set);
+    plain(
+        alloc,
+        format!(in alloc; "DATA REFUSED {word} ROW {row}: {reason}\n")?.as_str(),
     )
 }
 
@@ -69,44 +102,45 @@ pub(crate) fn no_table(alloc: Global, set: SetName, fault: &TableFault) -> Resul
 {
     match fault {
         TableFault::TooLong => too_long(alloc, set),
-        TableFault::NoHeader => {
-            plain(
-                alloc,
-                format!(in alloc; "DATA REFUSED {set}: NoHeader\n")?.as_str(),
-            )
-        }
-        TableFault::RowLength(row) => {
-            plain(
-                alloc,
-                format!(in alloc; "DATA REFUSED {set} ROW {row}: RowLength\n")?.as_str(),
-            )
-        }
-        TableFault::NotText(row) => {
-            plain(
-                alloc,
-                format!(in alloc; "DATA REFUSED {set} ROW {row}: NotText\n")?.as_str(),
-            )
-        }
-        TableFault::RepeatedColumn(name) => {
-            named(
-                alloc,
-                format!(in alloc; "DATA REFUSED {set}: RepeatedColumn ")?.as_str(),
-                name,
-            )
-        }
+        TableFault::NoHeader => in_set(alloc, set, "NoHeader"),
+        TableFault::RowLength(row) => in_row(alloc, set, *row, "RowLength"),
+        TableFault::NotText(row) => in_row(alloc, set, *row, "NotText"),
+        TableFault::RepeatedColumn(name) => in_set_named(
+            alloc,
+            set,
+            "RepeatedColumn",
+            name.bytes(),
+        ),
         TableFault::NoMemory => Ok(Text::new(alloc)),
     }
 }
 
-/// The tables are no network.
-pub(crate) fn no_network(alloc: Global, fault: NetworkFault) -> Result<Text, AllocError>
-    ensures { IfOk result (λ t. t ≡ network_line fault) }
+/// The columns of a data set have no roles.
+pub(crate) fn no_roles(alloc: Global, set: SetName, fault: &RoleFault) -> Result<Text, AllocError>
+    ensures { IfOk result (λ t. t ≡ roles_line set fault.now) }
 {
     match fault {
-        NetworkFault::ArcForm => plain(alloc, "DATA REFUSED ARCDATA: Form\n"),
-        NetworkFault::NodeForm => plain(alloc, "DATA REFUSED NODEDATA: Form\n"),
-        NetworkFault::NoMemory => Ok(Text::new(alloc)),
+        RoleFault::NoColumn(name) => in_set_named(alloc, set, "NoColumn", name.bytes()),
+        RoleFault::TwoRoles(name) => in_set_named(alloc, set, "TwoRoles", name.bytes()),
+        RoleFault::MissingRole(role) => {
+            in_set_named(alloc, set, "MissingRole", role_word(*role).as_bytes())
+        }
+        RoleFault::NoMemory => Ok(Text::new(alloc)),
     }
+}
+
+/// A cell of the data, an option or the size of the problem is refused.
+pub(crate) fn no_network(alloc: Global, fault: &DataFault) -> Result<Text, AllocError>
+    ensures { IfOk result (λ t. t ≡ data_line fault.now) }
+{
+    let (word, row, kind) = (set_word(fault.set), fault.row, fault.kind);
+    let mut text = plain(
+        alloc,
+        format!(in alloc; "DATA REFUSED {word} ROW {row} COLUMN ")?.as_str(),
+    )?;
+    text.push(fault.column.bytes())?;
+    text.push(format!(in alloc; ": {kind}\n")?.as_str().as_bytes())?;
+    Ok(text)
 }
 
 /// The table of CERTDATA is no certificate.

@@ -5,9 +5,11 @@
 
 mod check;
 mod lines;
+mod problem;
 mod program;
 mod refusal;
 mod run;
+mod set_words;
 mod sets;
 mod status;
 mod top;

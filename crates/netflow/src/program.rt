@@ -1,19 +1,19 @@
 //! The program of a text by the command that it is read for, and what of the language the command takes today.
-ghost use Rattle.std.specs.Prelude.{◌≡◌, List, ℕ, Some, IfOk, IfErr, MatchOption};
+ghost use Rattle.std.specs.Prelude.{◌≡◌, List, ℕ, IfOk, IfErr, IfSome, MatchOption};
 ghost use Rattle.std.specs.Io.KnownBytes.{Consumes, IsAtEnd};
 ghost use Rattle.nf_program.specs.declared.program.Command.TheVariants.{Check, Run};
 ghost use Rattle.nf_program.specs.Grammar.{HasProgram};
 ghost use Rattle.netflow.specs.Outcome.{Input};
-ghost use Rattle.netflow.specs.Standing.{SetNames as Named, StandsForCheck, StandsForRun, asks_more, asks_tables, is_first, says_more};
+ghost use Rattle.netflow.specs.Standing.{SetNames as Named, StandsForCheck, StandsForRun, asks_more, asks_tables, have_constraints, is_first, is_of_constraints, says_constraints};
 ghost use Rattle.std.specs.Str.{IsUtf8};
-ghost use Rattle.netflow.specs.Steps.{Stops, names_of, stop_of};
+ghost use Rattle.netflow.specs.Steps.{Stops, lent_name, names_of, stop_of};
 ghost use Rattle.netflow.specs.Words.{IsCommand};
 
 use crate::refusal::{Refusal, Stop};
 use nf_run::are_standing;
 use nf_stmt::{
-    Command, Name, PriceType, ProcOptions, Program, SessionOptions, StmtFault, StmtKind,
-    read_program,
+    Command, Name, NameList, PriceType, ProcOptions, Program, Role, SessionOptions, StmtFault,
+    StmtKind, read_program,
 };
 use std::alloc::Global;
 use std::str;
@@ -22,7 +22,7 @@ use std::str;
 #[derive(Clone, Copy)]
 pub(crate) struct SetNames<'a> {
     pub(crate) arcdata: &'a str,
-    pub(crate) nodedata: &'a str,
+    pub(crate) nodedata: Option<&'a str>,
     pub(crate) certdata: &'a str,
 }
 
@@ -47,32 +47,45 @@ pub(crate) fn program_of(alloc: Global, text: &[u8], command: Command) -> Result
     }
 }
 
-// Whether PROC says more of the network than its arcs and nodes.
-fn says_more(p: &ProcOptions) -> bool
-    ensures { result ≡ says_more p.now }
+// Whether PROC or a role statement speaks of side constraints.
+fn says_constraints(program: &Program) -> bool
+    ensures { result ≡ says_constraints program.now }
 {
+    let p = &program.proc;
     p.condata.is_some()
         || p.sparsecondata
-        || p.thrunet
-        || p.maximize
-        || p.defcost.is_some()
-        || p.defminflow.is_some()
-        || p.defcapacity.is_some()
         || p.defcontype.is_some()
-        || p.source.is_some()
-        || p.sink.is_some()
-        || p.supply.is_some()
-        || p.demand.is_some()
+        || have_constraints(program.roles.items())
 }
 
-// The name of a data set as text.
+// Whether one of these role statements is of CONDATA alone.
+fn have_constraints(statements: &[(Role, NameList)]) -> bool
+    ensures { result ≡ have_constraints statements.now }
+{
+    statements
+        .iter()
+        .any(|statement| is_of_constraints(statement.0))
+}
+
+// Whether a role is one of CONDATA alone.
+fn is_of_constraints(role: Role) -> bool
+    ensures { result ≡ is_of_constraints role }
+{
+    matches!(
+        role,
+        Role::Var | Role::ConKind | Role::Rhs | Role::Row | Role::Column | Role::Coef
+    )
+}
+
+// The name of a data set as text, where it is there.
 fn text_of(name: &Option<Name>) -> Option<&str>
-    ensures { MatchOption result ((n : List ℕ) → name.now ≡ Some n → IsUtf8 n → ⊥) (λ s. name.now ≡ Some s.now) }
+    requires text { IfSome name.now IsUtf8 }
+    ensures { lent_name result ≡ name.now }
 {
     match name {
         Some(name) => match str::from_utf8(name.bytes()) {
             Ok(text) => Some(text),
-            Err(_) => None,
+            Err(_) => unreachable!(),
         },
         None => None,
     }
@@ -81,24 +94,19 @@ fn text_of(name: &Option<Name>) -> Option<&str>
 /// The names of the data sets of a program of `check`, or None where `check` does not take the program.
 pub(crate) fn names_for_check(program: &Program) -> Option<SetNames<'_>>
     requires read { (text : List ℕ) × HasProgram Check text program.now }
-    ensures { MatchOption result ((n : Named) → StandsForCheck program.now n → ⊥) (λ n. StandsForCheck program.now (names_of n.arcdata.now n.nodedata.now n.certdata.now)) }
+    ensures { MatchOption result ((n : Named) → StandsForCheck program.now n → ⊥) (λ n. StandsForCheck program.now (names_of n)) }
 {
-    let p = &program.proc;
-    if says_more(p) || !program.roles.is_empty() {
+    if says_constraints(program) {
         return None;
     }
-    let Some(arcdata) = text_of(&p.arcdata) else {
-        return None;
-    };
-    let Some(nodedata) = text_of(&p.nodedata) else {
-        return None;
-    };
-    let Some(certdata) = text_of(&p.certdata) else {
+    let p = &program.proc;
+    let (arcdata, certdata) = (text_of(&p.arcdata), text_of(&p.certdata));
+    let (Some(arcdata), Some(certdata)) = (arcdata, certdata) else {
         return None;
     };
     Some(SetNames {
         arcdata,
-        nodedata,
+        nodedata: text_of(&p.nodedata),
         certdata,
     })
 }
@@ -145,24 +153,21 @@ fn is_first(rule: PriceType) -> bool
 /// program.
 pub(crate) fn names_for_run(program: &Program) -> Option<SetNames<'_>>
     requires read { (text : List ℕ) × HasProgram Run text program.now }
-    ensures { MatchOption result ((n : Named) → StandsForRun program.now n → ⊥) (λ n. StandsForRun program.now (names_of n.arcdata.now n.nodedata.now n.certdata.now)) }
+    ensures { MatchOption result ((n : Named) → StandsForRun program.now n → ⊥) (λ n. StandsForRun program.now (names_of n)) }
 {
     let p = &program.proc;
-    if says_more(p) || asks_tables(p) || asks_more(&p.session) {
+    if says_constraints(program) || asks_tables(p) || asks_more(&p.session) {
         return None;
     }
-    if !program.roles.is_empty() || !are_standing(program.acts.items()) {
+    if !are_standing(program.acts.items()) {
         return None;
     }
     let Some(arcdata) = text_of(&p.arcdata) else {
         return None;
     };
-    let Some(nodedata) = text_of(&p.nodedata) else {
-        return None;
-    };
     Some(SetNames {
         arcdata,
-        nodedata,
+        nodedata: text_of(&p.nodedata),
         certdata: "",
     })
 }

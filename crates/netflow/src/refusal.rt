@@ -4,14 +4,13 @@ ghost use Rattle.netflow.specs.Lines.{refusal_line};
 ghost use Rattle.netflow.specs.Status.{refusal_status};
 
 use crate::lines;
-use crate::sets::SetName;
 use crate::status::Status;
-use nf_arcs::NetworkFault;
 use nf_cert::CertFault;
 use nf_frac::Passed;
 use nf_io::Text;
 use nf_prob::Why;
-use nf_stmt::StmtFault;
+use nf_roles::{DataFault, RoleFault};
+use nf_stmt::{SetName, StmtFault};
 use nf_table::TableFault;
 use std::alloc::{AllocError, Global};
 
@@ -32,8 +31,10 @@ pub(crate) enum Refusal {
     TooLong(SetName),
     /// A data set is no table.
     NoTable(SetName, TableFault),
-    /// The tables are no network.
-    NoNetwork(NetworkFault),
+    /// The columns of a data set have no roles.
+    NoRoles(SetName, RoleFault),
+    /// The data are no network, or one of too many rows.
+    NoNetwork(DataFault),
     /// The table of CERTDATA is no certificate.
     NoCertificate(CertFault),
     /// The certificate is not valid.
@@ -62,7 +63,8 @@ impl Refusal {
             Refusal::Absent(name) => lines::named(alloc, "ABSENT ", name),
             Refusal::TooLong(set) => lines::too_long(alloc, *set),
             Refusal::NoTable(set, fault) => lines::no_table(alloc, *set, fault),
-            Refusal::NoNetwork(fault) => lines::no_network(alloc, *fault),
+            Refusal::NoRoles(set, fault) => lines::no_roles(alloc, *set, fault),
+            Refusal::NoNetwork(fault) => lines::no_network(alloc, fault),
             Refusal::NoCertificate(fault) => lines::no_certificate(alloc, fault),
             Refusal::NotValid(why) => lines::not_valid(alloc, *why),
             Refusal::Range(passed) => lines::range(alloc, passed),
@@ -78,8 +80,10 @@ impl Refusal {
             Refusal::NoProgram(_) | Refusal::NotStanding => Status::ProgramRefused,
             Refusal::ReadFault => Status::ReadFault,
             Refusal::Absent(_) => Status::Absent,
-            Refusal::TooLong(_) | Refusal::NoTable(..) | Refusal::NoNetwork(_) =>
-                Status::DataRefused,
+            Refusal::TooLong(_)
+            | Refusal::NoTable(..)
+            | Refusal::NoRoles(..)
+            | Refusal::NoNetwork(_) => Status::DataRefused,
             Refusal::NoCertificate(_) | Refusal::NotValid(_) => Status::CheckRefused,
             Refusal::Range(_) => Status::RangePassed,
         }

@@ -2,45 +2,23 @@
 ghost use Rattle.std.specs.Prelude.{true, ◌≡◌, ◌≤◌, ℕ, List, Some, MatchResult, IfOk, IfErr};
 ghost use Rattle.nf_io.specs.Held.{HasName};
 ghost use Rattle.nf_program.specs.declared.program.Command.{Command as Commands};
-ghost use Rattle.netflow.specs.Data.{AreTables, AreTablesBefore, Fetches, IsTable, Sets as SetBytes, bytes_of};
-ghost use Rattle.netflow.specs.Lines.{set_word};
-ghost use Rattle.netflow.specs.Outcome.{AreHeld, AreHeldBefore, FetchesSets, Input, NamesSets, name_of};
+ghost use Rattle.netflow.specs.Data.{AreTables, AreTablesBefore, Fetches, IsTable, IsTableOrNone, Sets as SetBytes, bytes_of};
+ghost use Rattle.netflow.specs.Outcome.{AreHeld, AreHeldBefore, FetchesSets, Input, IsHeldOrNone, NamesSets, name_of};
 ghost use Rattle.netflow.specs.Standing.{SetNames as Named};
-ghost use Rattle.netflow.specs.Steps.{SawFetches, Stops, grids_of, names_of, sets_of};
+ghost use Rattle.netflow.specs.Steps.{SawFetches, Stops, bytes_in, grids_of, lent_name, names_of, sets_of};
 
 use crate::program::SetNames;
 use crate::refusal::{Refusal, Stop};
 use nf_io::{FetchFault, Library, Text};
-use nf_stmt::Command;
+use nf_stmt::{Command, SetName};
 use nf_table::{Table, TableFault, read_table};
 use std::alloc::{AllocError, Global};
-use std::fmt;
-
-/// A data set, by the option of PROC that names it.
-#[derive(Clone, Copy, Debug, PartialEq, Eq)]
-pub(crate) enum SetName {
-    Arcdata,
-    Nodedata,
-    Certdata,
-}
-
-impl fmt::Display for SetName {
-    ghost output = { λ s. Some (set_word s) };
-
-    fn fmt<W: fmt::Write>(&self, f: &mut fmt::Formatter<W>) -> fmt::Result {
-        match self {
-            SetName::Arcdata => write!(f, "ARCDATA"),
-            SetName::Nodedata => write!(f, "NODEDATA"),
-            SetName::Certdata => write!(f, "CERTDATA"),
-        }
-    }
-}
 
 /// The bytes of the data sets of a program.
 #[derive(Debug, Drop)]
 pub(crate) struct Sets {
     arcdata: Vec<u8>,
-    nodedata: Vec<u8>,
+    nodedata: Option<Vec<u8>>,
     certdata: Vec<u8>,
 }
 
@@ -48,7 +26,7 @@ pub(crate) struct Sets {
 #[derive(Drop)]
 pub(crate) struct Tables {
     pub(crate) arcdata: Table,
-    pub(crate) nodedata: Table,
+    pub(crate) nodedata: Option<Table>,
     pub(crate) certdata: Table,
 }
 
@@ -76,7 +54,7 @@ fn fetch_set<L: Library>(
     ensures ok { IfOk result (λ v. HasName (L.held library.old) name.now v.items) }
     ensures stops { IfErr result (λ stop. (i : Input) (c : Commands) (n : Named) →
         SawFetches i (L.held library.old) (L.fetch_faults library.old) (L.fetch_faults library.new) (L.misses library.old) (L.misses library.new) →
-        NamesSets i c n → Fetches c set → AreHeldBefore i.held n set → name.now ≡ name_of n set → Stops i stop) }
+        NamesSets i c n → Fetches c set → AreHeldBefore i.held n set → Some name.now ≡ name_of n set → Stops i stop) }
 {
     let mut bytes = Vec::new(alloc);
     match library.fetch(alloc, name, &mut bytes) {
@@ -88,6 +66,32 @@ fn fetch_set<L: Library>(
         },
         Err(FetchFault::TooLong) => Err(Stop::Refused(Refusal::TooLong(set))),
         Err(FetchFault::NoMemory) => Err(Stop::NoMemory),
+    }
+}
+
+// The bytes of NODEDATA, where the program names it.
+fn fetch_nodedata<L: Library>(
+    alloc: Global,
+    name: Option<&str>,
+    library: &mut L,
+) -> Result<Option<Vec<u8>>, Stop>
+    ensures held { L.held library.new ≡ L.held library.old }
+    ensures stores { L.store_faults library.new ≡ L.store_faults library.old }
+    ensures faults { L.fetch_faults library.old ≤ L.fetch_faults library.new }
+    ensures misses { (q : List ℕ) → L.misses library.old q ≤ L.misses library.new q }
+    ensures quiet { L.quiet_fetches library.new ≡ L.quiet_fetches library.old }
+    ensures calm { L.quiet_fetches library.old ≡ true → L.fetch_faults library.new ≡ L.fetch_faults library.old }
+    ensures ok { IfOk result (λ v. IsHeldOrNone (L.held library.old) (lent_name name.entry) (bytes_in v)) }
+    ensures stops { IfErr result (λ stop. (i : Input) (c : Commands) (n : Named) →
+        SawFetches i (L.held library.old) (L.fetch_faults library.old) (L.fetch_faults library.new) (L.misses library.old) (L.misses library.new) →
+        NamesSets i c n → AreHeldBefore i.held n SetName.Nodedata → lent_name name.entry ≡ n.nodedata → Stops i stop) }
+{
+    let Some(name) = name else {
+        return Ok(None);
+    };
+    match fetch_set(alloc, SetName::Nodedata, name, library) {
+        Ok(bytes) => Ok(Some(bytes)),
+        Err(stop) => Err(stop),
     }
 }
 
@@ -132,15 +136,13 @@ pub(crate) fn fetch_sets<L: Library>(
     ensures misses { (q : List ℕ) → L.misses library.old q ≤ L.misses library.new q }
     ensures quiet { L.quiet_fetches library.new ≡ L.quiet_fetches library.old }
     ensures calm { L.quiet_fetches library.old ≡ true → L.fetch_faults library.new ≡ L.fetch_faults library.old }
-    ensures ok { let n = names_of names.entry.arcdata.now names.entry.nodedata.now names.entry.certdata.now in
-        IfOk result (λ s. AreHeld command (L.held library.old) n (sets_of s)) }
-    ensures stops { let n = names_of names.entry.arcdata.now names.entry.nodedata.now names.entry.certdata.now in
-        IfErr result (λ stop. (i : Input) →
+    ensures ok { IfOk result (λ s. AreHeld command (L.held library.old) (names_of names.entry) (sets_of s)) }
+    ensures stops { IfErr result (λ stop. (i : Input) →
         SawFetches i (L.held library.old) (L.fetch_faults library.old) (L.fetch_faults library.new) (L.misses library.old) (L.misses library.new) →
-        NamesSets i command n → Stops i stop) }
+        NamesSets i command (names_of names.entry) → Stops i stop) }
 {
     let arcdata = fetch_set(alloc, SetName::Arcdata, names.arcdata, library)?;
-    let nodedata = fetch_set(alloc, SetName::Nodedata, names.nodedata, library)?;
+    let nodedata = fetch_nodedata(alloc, names.nodedata, library)?;
     let certdata = fetch_certdata(alloc, command, names.certdata, library)?;
     Ok(Sets {
         arcdata,
@@ -153,12 +155,27 @@ pub(crate) fn fetch_sets<L: Library>(
 fn read_set(alloc: Global, set: SetName, bytes: Vec<u8>) -> Result<Table, Stop>
     ensures ok { IfOk result (IsTable bytes.items) }
     ensures stops { IfErr result (λ stop. (i : Input) (c : Commands) (s : SetBytes) →
-        Fetches c set → FetchesSets i c s → AreTablesBefore s set → bytes.items ≡ bytes_of s set → Stops i stop) }
+        Fetches c set → FetchesSets i c s → AreTablesBefore s set → Some bytes.items ≡ bytes_of s set → Stops i stop) }
 {
     match read_table(alloc, &bytes) {
         Ok(table) => Ok(table),
         Err(TableFault::NoMemory) => Err(Stop::NoMemory),
         Err(fault) => Err(Stop::Refused(Refusal::NoTable(set, fault))),
+    }
+}
+
+// The table of NODEDATA, where it is there.
+fn read_nodedata(alloc: Global, bytes: Option<Vec<u8>>) -> Result<Option<Table>, Stop>
+    ensures ok { IfOk result (IsTableOrNone (bytes_in bytes)) }
+    ensures stops { IfErr result (λ stop. (i : Input) (c : Commands) (s : SetBytes) →
+        FetchesSets i c s → AreTablesBefore s SetName.Nodedata → bytes_in bytes ≡ s.nodedata → Stops i stop) }
+{
+    let Some(bytes) = bytes else {
+        return Ok(None);
+    };
+    match read_set(alloc, SetName::Nodedata, bytes) {
+        Ok(table) => Ok(Some(table)),
+        Err(stop) => Err(stop),
     }
 }
 
@@ -174,7 +191,7 @@ pub(crate) fn read_tables(alloc: Global, sets: Sets) -> Result<Tables, Stop>
         certdata,
     } = sets;
     let arcdata = read_set(alloc, SetName::Arcdata, arcdata)?;
-    let nodedata = read_set(alloc, SetName::Nodedata, nodedata)?;
+    let nodedata = read_nodedata(alloc, nodedata)?;
     let certdata = read_set(alloc, SetName::Certdata, certdata)?;
     Ok(Tables {
         arcdata,
@@ -184,9 +201,9 @@ pub(crate) fn read_tables(alloc: Global, sets: Sets) -> Result<Tables, Stop>
 }
 
 /// The tables of ARCDATA and NODEDATA of a run, read in this order. It stops with `NoTable` at the first that is no table.
-pub(crate) fn read_network(alloc: Global, sets: Sets) -> Result<(Table, Table), Stop>
+pub(crate) fn read_network(alloc: Global, sets: Sets) -> Result<(Table, Option<Table>), Stop>
     ensures arcs { IfOk result (λ t. IsTable (sets_of sets).arcdata t.0) }
-    ensures nodes { IfOk result (λ t. IsTable (sets_of sets).nodedata t.1) }
+    ensures nodes { IfOk result (λ t. IsTableOrNone (sets_of sets).nodedata t.1) }
     ensures stops { IfErr result (λ stop. (i : Input) → FetchesSets i Command.Run (sets_of sets) → Stops i stop) }
 {
     let Sets {
@@ -195,6 +212,6 @@ pub(crate) fn read_network(alloc: Global, sets: Sets) -> Result<(Table, Table), 
         certdata: _,
     } = sets;
     let arcdata = read_set(alloc, SetName::Arcdata, arcdata)?;
-    let nodedata = read_set(alloc, SetName::Nodedata, nodedata)?;
+    let nodedata = read_nodedata(alloc, nodedata)?;
     Ok((arcdata, nodedata))
 }

@@ -94,7 +94,7 @@ fn checks_certificates(rt: HostRuntime) -> Result<(), Fail> {
             NODES,
             "_ITEM_,_NUMBER_,_VALUE_\nVERDICT,1,INFEASIBLE\nROW,1,0\nROW,2,-2\n",
             Status::CheckRefused,
-            "REFUSED CERTDATA UNKNOWN ROW 1\n",
+            "REFUSED GAP -10\n",
         ),
         (
             ARCS,
@@ -129,14 +129,14 @@ fn checks_certificates(rt: HostRuntime) -> Result<(), Fail> {
             "_NODE_,_SUPDEM_\na,5\nb,-4\n",
             CERT,
             Status::DataRefused,
-            "DATA REFUSED ARCDATA: Form\n",
+            "DATA REFUSED ARCDATA ROW 1 COLUMN _COST_: Amount\n",
         ),
         (
             ARCS,
             "_NODE_,_SUPDEM_\na,5\nb,-4\n",
             CERT,
-            Status::DataRefused,
-            "DATA REFUSED NODEDATA: Form\n",
+            Status::CheckRefused,
+            "REFUSED CERTDATA UNKNOWN ROW 3\n",
         ),
     ];
     for (arcs, nodes, certificate, status, listing) in cases {
@@ -237,12 +237,12 @@ fn tells_what_stops_it(rt: HostRuntime) -> Result<(), Fail> {
             "check",
             "proc netflow arcdata=arcs certdata=k;",
             [0, 0, 0],
-            Status::ProgramRefused,
-            form,
+            Status::CheckRefused,
+            "REFUSED ROW 1\n",
         ),
         (
             "check",
-            "proc netflow arcdata=arcs nodedata=nodes certdata=k thrunet;",
+            "proc netflow arcdata=arcs nodedata=nodes certdata=k defcontype=ge;",
             [0, 0, 0],
             Status::ProgramRefused,
             form,
@@ -251,8 +251,8 @@ fn tells_what_stops_it(rt: HostRuntime) -> Result<(), Fail> {
             "check",
             "proc netflow arcdata=arcs nodedata=nodes certdata=k; cost c;",
             [0, 0, 0],
-            Status::ProgramRefused,
-            form,
+            Status::DataRefused,
+            "DATA REFUSED ARCDATA: NoColumn c\n",
         ),
         (
             "check",

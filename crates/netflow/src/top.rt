@@ -1,5 +1,6 @@
 //! The whole call.
-ghost use Rattle.std.specs.Prelude.{true, ◌≡◌, ◌≤◌, ℕ, List, IfOk, IfErr, MatchResult, map};
+ghost use Rattle.std.specs.Prelude.{true, ◌≡◌, ◌≤◌, ℕ, List, IfOk, IfErr, IfSome, MatchResult, map};
+ghost use Rattle.nf_frac.specs.Amounts.{IsAmount};
 ghost use Rattle.std.specs.Io.KnownBytes.{Consumes, IsAtEnd};
 ghost use Rattle.std.specs.String.{string_bytes};
 ghost use Rattle.nf_program.specs.declared.program.Command.{Command as Commands};
@@ -11,8 +12,9 @@ ghost use Rattle.netflow.specs.Outcome.{Accepts, AreHeld, Call, Comes, Input, Is
 ghost use Rattle.netflow.specs.Steps.{SawFetches, SawSource, Stops, names_of};
 ghost use Rattle.netflow.specs.Words.{IsCommand};
 
-use crate::check::{judge, pose};
+use crate::check::judge;
 use crate::lines;
+use crate::problem::pose;
 use crate::program::{SetNames, names_for_check, names_for_run, program_of};
 use crate::refusal::{Refusal, Stop};
 use crate::run::run;
@@ -101,7 +103,7 @@ fn check_answer<S: Source, L: Library>(
     };
     let sets = fetch_sets(alloc, Command::Check, names, library)?;
     let tables = read_tables(alloc, sets)?;
-    judge(alloc, tables)
+    judge(alloc, &program, tables)
 }
 
 // A program and the problem that it is run on.
@@ -114,22 +116,22 @@ struct Loaded {
 // The problem of the data sets that a program of `run` names.
 fn load_problem<L: Library>(
     alloc: Global,
+    program: &Program,
     names: SetNames<'_>,
     library: &mut L,
 ) -> Result<Problem, Stop>
+    requires demand { IfSome program.now.proc.demand IsAmount }
     ensures held { L.held library.new ≡ L.held library.old }
     ensures stores { L.store_faults library.new ≡ L.store_faults library.old }
     ensures library_calm { L.quiet_fetches library.old ≡ true → L.fetch_faults library.new ≡ L.fetch_faults library.old }
-    ensures posed { let n = names_of names.entry.arcdata.now names.entry.nodedata.now names.entry.certdata.now in
-        IfOk result (λ p. (s : SetBytes) × AreHeld Run (L.held library.old) n s × IsProblemOf s.arcdata s.nodedata p) }
-    ensures stops { let n = names_of names.entry.arcdata.now names.entry.nodedata.now names.entry.certdata.now in
-        IfErr result (λ stop. (i : Input) →
+    ensures posed { IfOk result (λ p. (s : SetBytes) × AreHeld Run (L.held library.old) (names_of names.entry) s × IsProblemOf program.now s p) }
+    ensures stops { IfErr result (λ stop. (i : Input) →
         SawFetches i (L.held library.old) (L.fetch_faults library.old) (L.fetch_faults library.new) (L.misses library.old) (L.misses library.new) →
-        NamesSets i Run n → Stops i stop) }
+        (n : NamesSets i Run (names_of names.entry)) → n.program ≡ program.now → Stops i stop) }
 {
     let sets = fetch_sets(alloc, Command::Run, names, library)?;
     let (arcs, nodes) = read_network(alloc, sets)?;
-    pose(alloc, arcs, nodes)
+    pose(alloc, program, arcs, nodes)
 }
 
 // What a run is of, or why it stops before the first statement.
@@ -162,7 +164,7 @@ fn run_input<S: Source, L: Library>(
     let Some(names) = names_for_run(&program) else {
         return Err(Stop::Refused(Refusal::NotStanding));
     };
-    let problem = load_problem(alloc, names, library)?;
+    let problem = load_problem(alloc, &program, names, library)?;
     Ok(Loaded { program, problem })
 }
 
@@ -280,7 +282,8 @@ fn run_words<S: Source, L: Library, K: Sink>(
 /// passes 128 bits.
 ///
 /// Else the listing has the line of one refusal, the first in this order: the words; the source; the program's text;
-/// what the command takes of the language; the fetches; the tables; the form of the network; and for `check` the table
+/// what the command takes of the language; the fetches; the tables; the roles of their columns; the data; the size of the
+/// problem; and for `check` the table
 /// of the certificate; its validity, or a number that passes 128 bits. What is written is always the front of that
 /// listing: `WriteFault` comes where a put failed in it, and `NoMemory` where memory ran out, there or before. The
 /// library is left as it was.

@@ -1,19 +1,20 @@
 use Rattle.std.proofs.Common.{refl}
 use Rattle.std.proofs.lemmas.Result.{err_from_is_err_and}
-use Rattle.netflow.proofs.StopFacts.{fetches-arcs, fetches-nodes, saw-held, saw-later}
+use Rattle.netflow.proofs.StopFacts.{saw-held, saw-later, saw-or-none}
+use Rattle.netflow.specs.Steps.{bytes_in}
 use Rattle.netflow.proofs.sets.fetch_sets.Goals as goal
 
 pub returns-in_err-arcdata-clause-stops : goal.returns-in_err-arcdata-clause-stops
 returns-in_err-arcdata-clause-stops g c =
     let p = err_from_is_err_and c.from_residual.result c.from_residual.ensures.1 in
-    rw (p.1, p.2) (λ i saw reads. c.in_err-arcdata.ensures.stops i c.args.command _ saw reads (fetches-arcs c.args.command) tt refl)
+    rw (p.1, p.2) (λ i saw reads. c.in_err-arcdata.ensures.stops i c.args.command _ saw reads tt tt refl)
 
 pub returns-in_err-nodedata-clause-stops : goal.returns-in_err-nodedata-clause-stops
 returns-in_err-nodedata-clause-stops g c =
     let p = err_from_is_err_and c.from_residual-in_err-nodedata.result c.from_residual-in_err-nodedata.ensures.1 in
     let one = c.in_ok-arcdata.ensures in
     rw (p.1, p.2) (λ i saw reads.
-    c.in_err-nodedata.ensures.stops i c.args.command _ (saw-later i _ _ _ _ _ _ _ _ saw one.held one.faults one.misses) reads (fetches-nodes c.args.command)
+    c.in_err-nodedata.ensures.stops i c.args.command _ (saw-later i _ _ _ _ _ _ _ _ saw one.held one.faults one.misses) reads
     (c.in_ok-arcdata.arcdata.items, saw-held i _ _ _ saw.held one.ok) refl)
 
 pub returns-in_err-certdata-clause-stops : goal.returns-in_err-certdata-clause-stops
@@ -24,4 +25,4 @@ returns-in_err-certdata-clause-stops g c =
     rw (p.1, p.2) (λ i saw reads.
     let later = saw-later i _ _ _ _ _ _ _ _ saw one.held one.faults one.misses in
     c.in_err-certdata.ensures.stops i _ (saw-later i _ _ _ _ _ _ _ _ later two.held two.faults two.misses) reads
-    (c.in_ok-arcdata.arcdata.items, c.in_ok-nodedata.nodedata.items, saw-held i _ _ _ saw.held one.ok, saw-held i _ _ _ later.held two.ok) refl)
+    (c.in_ok-arcdata.arcdata.items, bytes_in c.in_ok-nodedata.nodedata, saw-held i _ _ _ saw.held one.ok, saw-or-none i _ _ _ later.held two.ok) refl)

@@ -3,7 +3,11 @@ use Rattle.std.proofs.lemmas.Result.{err_from_is_err_and}
 use Rattle.nf_program.specs.declared.program.Command.TheVariants.{Check}
 use Rattle.netflow.specs.Steps.{names_of, sets_of}
 use Rattle.netflow.proofs.StopFacts.{both-cases}
+use Rattle.nf_writer.proofs.Written.{amounts_are_in_range}
 use Rattle.netflow.proofs.top.check_answer.Goals as goal
+
+pub judge-requires : goal.judge-requires
+judge-requires g c = let has = c.in_ok-program.ensures.read in record { demand = (amounts_are_in_range Check has.0 c.in_ok-program.program has.1).demand }
 
 pub returns-in_err-program-clause-answer : goal.returns-in_err-program-clause-answer
 returns-in_err-program-clause-answer g c =
@@ -34,7 +38,7 @@ returns-in_err-tables-clause-answer g c =
     let p = err_from_is_err_and c.from_residual-in_err-tables.result c.from_residual-in_err-tables.ensures.1 in
     rw (p.1, p.2) (c.in_err-tables.ensures.stops _
     (record {
-      names = names_of c.in-Some.names.arcdata.now c.in-Some.names.nodedata.now c.in-Some.names.certdata.now;
+      names = names_of c.in-Some.names;
       named = record {
         program = c.in_ok-program.program;
         reads = c.in_ok-program.ensures.reads _ (record { left = refl; rest = refl; faults = refl; faults_after = refl }) c.requires.command;
@@ -47,20 +51,20 @@ pub returns-clause-answer : goal.returns-clause-answer
 returns-clause-answer g c =
     both-cases c.judge.result c.judge.ensures.ok c.judge.ensures.stops
     (λ x h. h _ (sets_of c.in_ok-sets.sets) (record {
-      names = names_of c.in-Some.names.arcdata.now c.in-Some.names.nodedata.now c.in-Some.names.certdata.now;
+      names = names_of c.in-Some.names;
       named = record {
         program = c.in_ok-program.program;
         reads = c.in_ok-program.ensures.reads _ (record { left = refl; rest = refl; faults = refl; faults_after = refl }) c.requires.command;
         stands = c.in-Some.ensures;
       };
       held = c.in_ok-sets.ensures.ok;
-    }) c.in_ok-tables.ensures.ok)
+    }) refl c.in_ok-tables.ensures.ok)
     (λ x h. h _ (sets_of c.in_ok-sets.sets) (record {
-      names = names_of c.in-Some.names.arcdata.now c.in-Some.names.nodedata.now c.in-Some.names.certdata.now;
+      names = names_of c.in-Some.names;
       named = record {
         program = c.in_ok-program.program;
         reads = c.in_ok-program.ensures.reads _ (record { left = refl; rest = refl; faults = refl; faults_after = refl }) c.requires.command;
         stands = c.in-Some.ensures;
       };
       held = c.in_ok-sets.ensures.ok;
-    }) c.in_ok-tables.ensures.ok)
+    }) refl c.in_ok-tables.ensures.ok)

@@ -2,16 +2,27 @@ use Rattle.std.proofs.Common.{refl, arith}
 use Rattle.std.proofs.lemmas.Result.{err_from_is_err_and}
 use Rattle.nf_program.specs.declared.program.Command.TheVariants.{Run}
 use Rattle.netflow.specs.Steps.{sets_of}
-use Rattle.netflow.proofs.StopFacts.{err-then, held-there, run-tables}
+use Rattle.netflow.proofs.StopFacts.{err-then, held-there, ok-then, poses, refuses, run-tables}
 use Rattle.netflow.proofs.top.load_problem.Goals as goal
 
 pub returns-in_err-arcs-clause-stops : goal.returns-in_err-arcs-clause-stops
 returns-in_err-arcs-clause-stops g c =
     let p = err_from_is_err_and c.from_residual-in_err-arcs.result c.from_residual-in_err-arcs.ensures.1 in
-    rw (p.1, p.2) (λ i saw named. c.in_err-arcs.ensures.stops i (record { names = _; named = named; held = held-there i Run _ _ _ saw.held c.in_ok-sets.ensures.ok }))
+    rw (p.1, p.2) (λ i saw named e. c.in_err-arcs.ensures.stops i (record { names = _; named = named; held = held-there i Run _ _ _ saw.held c.in_ok-sets.ensures.ok }))
+
+pub returns-clause-posed : goal.returns-clause-posed
+returns-clause-posed g c =
+    ok-then c.pose.result c.pose.ensures.ok
+    (λ problem h. (
+      sets_of c.in_ok-sets.sets,
+      c.in_ok-sets.ensures.ok,
+      poses Run (sets_of c.in_ok-sets.sets) _ c.args.program.now c.args.program.now problem
+          (run-tables (sets_of c.in_ok-sets.sets) _ _ c.in_ok-arcs.ensures.arcs c.in_ok-arcs.ensures.nodes) refl h,
+    ))
 
 pub returns-clause-stops : goal.returns-clause-stops
 returns-clause-stops g c =
     err-then c.pose.result c.pose.ensures.stops
-    (λ stop h i saw named. h i Run (sets_of c.in_ok-sets.sets) _ (record { names = _; named = named; held = held-there i Run _ _ _ saw.held c.in_ok-sets.ensures.ok })
-    (run-tables (sets_of c.in_ok-sets.sets) _ _ c.in_ok-arcs.ensures.arcs c.in_ok-arcs.ensures.nodes) refl refl)
+    (λ stop h i saw named e.
+    refuses i Run (sets_of c.in_ok-sets.sets) _ c.args.program.now (record { names = _; named = named; held = held-there i Run _ _ _ saw.held c.in_ok-sets.ensures.ok })
+    (run-tables (sets_of c.in_ok-sets.sets) _ _ c.in_ok-arcs.ensures.arcs c.in_ok-arcs.ensures.nodes) e stop h)

@@ -2,7 +2,11 @@ use Rattle.std.proofs.Common.{arith, refl}
 use Rattle.std.proofs.lemmas.Result.{err_from_is_err_and}
 use Rattle.nf_program.specs.declared.program.Command.TheVariants.{Run}
 use Rattle.netflow.specs.Steps.{names_of}
+use Rattle.nf_writer.proofs.Written.{amounts_are_in_range}
 use Rattle.netflow.proofs.top.run_input.Goals as goal
+
+pub load_problem-requires : goal.load_problem-requires
+load_problem-requires g c = let has = c.in_ok-program.ensures.read in record { demand = (amounts_are_in_range Run has.0 c.in_ok-program.program has.1).demand }
 
 pub returns-in_err-program-clause-input : goal.returns-in_err-program-clause-input
 returns-in_err-program-clause-input g c =
@@ -26,14 +30,14 @@ returns-in_err-problem-clause-input g c =
       program = c.in_ok-program.program;
       reads = c.in_ok-program.ensures.reads _ (record { left = refl; rest = refl; faults = refl; faults_after = refl }) c.requires.command;
       stands = c.in-Some.ensures;
-    }))
+    }) refl)
 
 pub returns-clause-input : goal.returns-clause-input
 returns-clause-input g c =
     let posed = c.in_ok-problem.ensures.posed in
     record {
       reads = c.in_ok-program.ensures.reads _ (record { left = refl; rest = refl; faults = refl; faults_after = refl }) c.requires.command;
-      names = names_of c.in-Some.names.arcdata.now c.in-Some.names.nodedata.now c.in-Some.names.certdata.now;
+      names = names_of c.in-Some.names;
       stands = c.in-Some.ensures;
       sets = posed.0;
       held = posed.1;

@@ -1,4 +1,5 @@
-use Rattle.std.proofs.Common.{inl, inr, refl}
+use Rattle.std.proofs.Common.{inl, inr, refl, subst, sym}
+use Rattle.nf_run.specs.Setting.{IsPlain}
 use Rattle.netflow.proofs.PlainFacts.{network_plain}
 use Rattle.netflow.proofs.StopFacts.{refused-comes}
 use Rattle.netflow.proofs.top.run_words.Goals as goal
@@ -6,7 +7,7 @@ use Rattle.netflow.proofs.top.run_words.Goals as goal
 pub run-requires-clause-plain : goal.run-requires-clause-plain
 run-requires-clause-plain g c =
     let posed = c.in-Ok.ensures.input.posed in
-    network_plain posed.arcs posed.nodes _ posed.posed
+    subst IsPlain (sym posed.is) (network_plain _ _ posed.network posed.posed)
 
 pub returns-in-Err-Refused-clause-comes : goal.returns-in-Err-Refused-clause-comes
 returns-in-Err-Refused-clause-comes g c =

@@ -1,0 +1,75 @@
+#!/usr/bin/env python3
+"""How the time to make a problem of ARCDATA and NODEDATA grows with their bytes.
+
+    python3 bench/network.py --netflow crates/netflow/out/netflow
+
+`netflow run` reads networks of 50,000, 100,000 and 200,000 arcs, the most that it takes, on a tenth as many nodes, with
+names, costs, bounds and supplies, and with excess arcs. Each has more rows than a problem may have, which is told once the
+problem is whole: so what is timed is the reading of the tables, the roles, every check of the data, and the making of the
+problem and its labels. The best of five runs counts, in processor seconds. Memory is the most that was resident.
+"""
+import argparse
+import os
+import random
+import sys
+import tempfile
+
+PROGRAM = b"proc netflow arcdata=arcs nodedata=nodes;\nid note;\nrun;\n"
+DUE = "DATA REFUSED PROC ROW 0 COLUMN ROWS: LimitPassed\n"
+RUNS = 5
+
+
+def make_network(folder, arcs, seed=1):
+    """Random arcs, parallel ones under names of their own; a tenth as many nodes, each tenth one with a supply."""
+    r = random.Random(seed)
+    nodes = arcs // 10
+    with open(os.path.join(folder, "arcs.csv"), "w", encoding="utf-8") as f:
+        f.write("_FROM_,_TO_,_NAME_,_COST_,_LO_,_CAPAC_,note\n")
+        for j in range(arcs):
+            f.write("place %05d,place %05d,way %06d,%d,%d,%d,\n" % (r.randrange(nodes), r.randrange(nodes), j, r.randint(-99, 999), r.randint(0, 9), r.randint(9, 9999)))
+    with open(os.path.join(folder, "nodes.csv"), "w", encoding="utf-8") as f:
+        f.write("_NODE_,_SUPDEM_\n")
+        for i in range(nodes):
+            f.write("place %05d,%s\n" % (i, r.randint(1, 99) if i % 10 == 0 else "."))
+    return sum(os.path.getsize(os.path.join(folder, name)) for name in ("arcs.csv", "nodes.csv"))
+
+
+def run(program, folder):
+    """One run: processor seconds, megabytes, status, listing."""
+    pipe, feed = os.pipe()
+    os.write(feed, PROGRAM)
+    os.close(feed)
+    with tempfile.TemporaryFile() as out:
+        child = os.fork()
+        if child == 0:
+            os.chdir(folder)
+            os.dup2(pipe, 0)
+            os.dup2(out.fileno(), 1)
+            os.execv(program, [program, "run"])
+        os.close(pipe)
+        _, status, usage = os.wait4(child, 0)
+        out.seek(0)
+        return usage.ru_utime + usage.ru_stime, usage.ru_maxrss / 1024, os.waitstatus_to_exitcode(status), out.read().decode()
+
+
+def main():
+    parser = argparse.ArgumentParser(description="Time to make a problem of its tables, by their bytes.")
+    parser.add_argument("--netflow", required=True, help="the built program")
+    program = os.path.abspath(parser.parse_args().netflow)
+    before = None
+    for arcs in (50000, 100000, 200000):
+        with tempfile.TemporaryDirectory() as folder:
+            size = make_network(folder, arcs)
+            runs = [run(program, folder) for _ in range(RUNS)]
+        for seconds, _, status, listing in runs:
+            if (status, listing) != (4, DUE):
+                sys.exit("answered %d %r, due is 4 %r" % (status, listing, DUE))
+        seconds, memory = min(r[0] for r in runs), max(r[1] for r in runs)
+        growth = "" if before is None else "   twice the bytes take %.2f times as long" % (seconds / before)
+        print("%6d arcs, %5d nodes, %8d bytes: %.3f s, %5.1f MB/s, %5.0f MB%s" % (arcs, arcs // 10, size, seconds, size / seconds / 1e6, memory, growth))
+        before = seconds
+    return 0
+
+
+if __name__ == "__main__":
+    sys.exit(main())
