@@ -8,7 +8,8 @@ paths in whole numbers). `run` must print OPTIMAL with the cost that `check` acc
 rule of pricing, and the counts of pivots behind it; with MAXIT1= one below these pivots it must halt there, and with
 MAXIT1= of just as many it must print OPTIMAL again. Then a supply is raised above what the network carries: where no
 flow exists, `run` must print INFEASIBLE with a gap above 0, and where the costs have no least, UNBOUNDED with a rate
-below 0. A scenario depends on the seed and its number alone.
+below 0. Behind each verdict `run` must save a certificate of so many rows as it has, which `check` accepts with the same
+word and number; behind a halt it must save none. A scenario depends on the seed and its number alone.
 
     --first N         begins at scenario N
     --keep FOLDER     keeps the files of scenarios that fail
@@ -28,8 +29,11 @@ from random_checks import Scenario  # noqa: E402
 RULES = ["first", "best", "bland"]
 
 
+NOT_SAVED = "NOT SAVED CERTOUT NO VERDICT"
+
+
 def program(options):
-    return ("proc netflow arcdata=arcs nodedata=nodes%s; run;" % options).encode()
+    return ("proc netflow arcdata=arcs nodedata=nodes certout=o%s; run;" % options).encode()
 
 
 def call(netflow, words, text, folder):
@@ -42,10 +46,22 @@ def number(line, word):
 
 
 def pivots(lines):
-    """The pivots of stage one, where the last two lines of a RUN are right."""
-    if len(lines) != 4 or lines[3] != "STAGE 2 PIVOTS 0" or not lines[2].startswith("STAGE 1 PIVOTS "):
+    """The pivots of stage one, where the last lines of a RUN are right, with the line of a saved certificate."""
+    if len(lines) != 5 or lines[3] != "STAGE 2 PIVOTS 0" or not lines[2].startswith("STAGE 1 PIVOTS "):
         return None
     return int(lines[2].split(" ")[3])
+
+
+def saved_faults(netflow, folder, lines):
+    """What is wrong with the certificate that a verdict has saved."""
+    with open(os.path.join(folder, "o.csv")) as f:
+        rows = f.read().splitlines()
+    if lines[4] != "SAVED CERTOUT o ROWS %d" % (len(rows) - 1):
+        return ["%d rows are saved, and told as %r" % (len(rows) - 1, lines[4])]
+    status, text = call(netflow, ["check"], b"proc netflow arcdata=arcs nodedata=nodes certdata=o;", folder)
+    if (status, text) != (0, "ACCEPTED %s\n%s\n" % (lines[0], lines[1])):
+        return ["the certificate of %r is not accepted: %d %r" % (lines[:2], status, text)]
+    return []
 
 
 def faults(netflow, scenario, folder):
@@ -62,12 +78,13 @@ def faults(netflow, scenario, folder):
         if status != 0 or lines[:2] != ["OPTIMAL", accepted[1]] or made is None:
             bad.append("%s: %d %r, where %r is accepted" % (rule, status, text, accepted[1]))
             continue
+        bad += saved_faults(netflow, folder, lines)
         status, again = call(netflow, ["run"], program(" pricetype1=%s maxit1=%d" % (rule, made)), folder)
         if (status, again) != (0, text):
             bad.append("%s, with as many pivots as it takes: %d %r" % (rule, status, again))
         if made > 0:
             status, less = call(netflow, ["run"], program(" pricetype1=%s maxit1=%d" % (rule, made - 1)), folder)
-            due = "HALTED MAXIT1 %d\nSTAGE 1 PIVOTS %d\nSTAGE 2 PIVOTS 0\n" % (made - 1, made - 1)
+            due = "HALTED MAXIT1 %d\nSTAGE 1 PIVOTS %d\nSTAGE 2 PIVOTS 0\n%s\n" % (made - 1, made - 1, NOT_SAVED)
             if (status, less) != (0, due):
                 bad.append("%s, with one pivot less: %d %r" % (rule, status, less))
     return bad
@@ -77,10 +94,10 @@ def end_faults(netflow, folder, first, word, is_right):
     """What is wrong with a run that must end so."""
     status, text = call(netflow, ["run"], program(""), folder)
     lines = text.splitlines()
-    value = number(lines[1], word) if len(lines) == 4 else None
+    value = number(lines[1], word) if len(lines) == 5 else None
     if status != 0 or lines[0] != first or value is None or not is_right(value) or pivots(lines) is None:
         return ["%s is due: %d %r" % (first, status, text)]
-    return []
+    return saved_faults(netflow, folder, lines)
 
 
 def write(folder, name, rows):

@@ -44,7 +44,7 @@ proves-of p (cert.Farkas duals) number h = (h.1, h.2)
 proves-of p (cert.Ray flows ray) number h = (h.1, h.2)
 
 pub claim-proved : (c : Call) → IsCommand Check c.input.words → Comes c status.Finished → ClaimIsProved c
-claim-proved c words (inl (line, a, l)) = record {
+claim-proved c words (inl (line, a, l, kept)) = record {
   problem = a.problem;
   certificate = a.certificate;
   reads = a.reads;
@@ -52,7 +52,7 @@ claim-proved c words (inl (line, a, l)) = record {
   proves = proves-of a.problem a.certificate a.number a.valid;
   listed = subst (λ v. Lists c (accepted_lines v)) a.told l;
 }
-claim-proved c words (inr (program, problem, runs, text, listing, listed)) = absurd (not-both c.input.words words runs.reads.words)
+claim-proved c words (inr (program, problem, runs, (stored, text, listing, listed, kept))) = absurd (not-both c.input.words words runs.reads.words)
 
 -- a told source gives the front of its text, and at its end the whole
 front-consumed : (rest : Option (List ℕ)) (text taken : List ℕ) → Consumes (Some text) rest taken → length taken ≤ length text
@@ -270,17 +270,18 @@ refused-range i problem certificate k v s l (refusal.Range passed) h = tt
 pub accepts-valid : (c : Call) (s : Status) → Comes c s → AcceptsTheValid c s
 accepts-valid c status.Finished h = λ p x n k v. inl refl
 accepts-valid c status.Usage h = λ p x n k v. absurd (refused-range c.input p x k v n.source n.library refusal.Usage h.0)
-accepts-valid c status.ProgramRefused (inl (fault, (h, l))) = λ p x n k v. absurd (refused-range c.input p x k v n.source n.library (refusal.NoProgram fault) h)
-accepts-valid c status.ProgramRefused (inr (h, l)) = λ p x n k v. absurd (refused-range c.input p x k v n.source n.library refusal.NotStanding h)
-accepts-valid c status.DataRefused (inl (set, (h, l))) = λ p x n k v. absurd (refused-range c.input p x k v n.source n.library (refusal.TooLong set) h)
-accepts-valid c status.DataRefused (inr (inl (set, fault, (h, l)))) = λ p x n k v. absurd (refused-range c.input p x k v n.source n.library (refusal.NoTable set fault) h)
-accepts-valid c status.DataRefused (inr (inr (inl (set, fault, (h, l))))) = λ p x n k v. absurd (refused-range c.input p x k v n.source n.library (refusal.NoRoles set fault) h)
-accepts-valid c status.DataRefused (inr (inr (inr (fault, (h, l))))) = λ p x n k v. absurd (refused-range c.input p x k v n.source n.library (refusal.NoNetwork fault) h)
+accepts-valid c status.ProgramRefused (inl (fault, (h, l, kept))) = λ p x n k v. absurd (refused-range c.input p x k v n.source n.library (refusal.NoProgram fault) h)
+accepts-valid c status.ProgramRefused (inr (h, l, kept)) = λ p x n k v. absurd (refused-range c.input p x k v n.source n.library refusal.NotStanding h)
+accepts-valid c status.DataRefused (inl (set, (h, l, kept))) = λ p x n k v. absurd (refused-range c.input p x k v n.source n.library (refusal.TooLong set) h)
+accepts-valid c status.DataRefused (inr (inl (set, fault, (h, l, kept)))) = λ p x n k v. absurd (refused-range c.input p x k v n.source n.library (refusal.NoTable set fault) h)
+accepts-valid c status.DataRefused (inr (inr (inl (set, fault, (h, l, kept))))) = λ p x n k v. absurd (refused-range c.input p x k v n.source n.library (refusal.NoRoles set fault) h)
+accepts-valid c status.DataRefused (inr (inr (inr (fault, (h, l, kept))))) = λ p x n k v. absurd (refused-range c.input p x k v n.source n.library (refusal.NoNetwork fault) h)
 accepts-valid c status.ReadFault h = λ p x n k v. absurd (refused-range c.input p x k v n.source n.library refusal.ReadFault h.0)
-accepts-valid c status.WriteFault h = λ p x n k v. absurd (n.listing h.0)
-accepts-valid c status.Absent (name, (h, l)) = λ p x n k v. absurd (refused-range c.input p x k v n.source n.library (refusal.Absent name) h)
+accepts-valid c status.WriteFault (inl h) = λ p x n k v. absurd (n.listing h.0)
+accepts-valid c status.WriteFault (inr (rose, (program, problem, runs, stops))) = λ p x n k v. absurd (not-both c.input.words k.words runs.reads.words)
+accepts-valid c status.Absent (name, (h, l, kept)) = λ p x n k v. absurd (refused-range c.input p x k v n.source n.library (refusal.Absent name) h)
 accepts-valid c status.RangePassed h = λ p x n k v. inr (inl refl)
-accepts-valid c status.CheckRefused (inl (fault, (h, l))) = λ p x n k v. absurd (refused-range c.input p x k v n.source n.library (refusal.NoCertificate fault) h)
-accepts-valid c status.CheckRefused (inr (why, (h, l))) = λ p x n k v. absurd (refused-range c.input p x k v n.source n.library (refusal.NotValid why) h)
+accepts-valid c status.CheckRefused (inl (fault, (h, l, kept))) = λ p x n k v. absurd (refused-range c.input p x k v n.source n.library (refusal.NoCertificate fault) h)
+accepts-valid c status.CheckRefused (inr (why, (h, l, kept))) = λ p x n k v. absurd (refused-range c.input p x k v n.source n.library (refusal.NotValid why) h)
 accepts-valid c status.NoMemory h = λ p x n k v. inr (inr refl)
 accepts-valid c status.WarmRefused h = absurd h

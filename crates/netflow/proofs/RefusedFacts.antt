@@ -25,21 +25,22 @@ no-names i text told none words Check n h =
     not-taken text h.program n (rw same h.reads.spelled) h.stands none
 
 pub refuses-none : (c : Call) (s : Status) → Comes c s → RefusesNoProgram c s
-refuses-none c status.Finished (inl (line, a, l)) = λ text n words told none. absurd (no-names c.input text told none words Check a.reads.poses.fetches.names a.reads.poses.fetches.named)
-refuses-none c status.Finished (inr (program, problem, runs, list, listing, listed)) = λ text n words told none. absurd (not-both c.input.words words runs.reads.words)
+refuses-none c status.Finished (inl (line, a, l, kept)) = λ text n words told none. absurd (no-names c.input text told none words Check a.reads.poses.fetches.names a.reads.poses.fetches.named)
+refuses-none c status.Finished (inr (program, problem, runs, (stored, list, listing, listed, kept))) = λ text n words told none. absurd (not-both c.input.words words runs.reads.words)
 refuses-none c status.Usage h = λ text n words told none. absurd (h.0 Check words)
 refuses-none c status.ProgramRefused h = λ text n words told none. inl refl
-refuses-none c status.DataRefused (inl (set, ((d, m, name, here, named, before, is, many), l))) = λ text n words told none. absurd (no-names c.input text told none words d m named)
-refuses-none c status.DataRefused (inr (inl (set, fault, ((d, sets, bytes, here, fetches, before, is, e), l)))) = λ text n words told none. absurd (no-names c.input text told none words d fetches.names fetches.named)
-refuses-none c status.DataRefused (inr (inr (inl (set, fault, ((d, sets, fetches, t, tables, e), l))))) = λ text n words told none. absurd (no-names c.input text told none words d fetches.names fetches.named)
-refuses-none c status.DataRefused (inr (inr (inr (fault, ((d, sets, fetches, t, tables, e), l))))) = λ text n words told none. absurd (no-names c.input text told none words d fetches.names fetches.named)
-refuses-none c status.ReadFault ((d, w, inl rose), l) = λ text n words told none. absurd (n.source rose)
-refuses-none c status.ReadFault ((d, w, inr (m, named, rose)), l) = λ text n words told none. absurd (n.library rose)
-refuses-none c status.WriteFault h = λ text n words told none. absurd (n.listing h.0)
-refuses-none c status.Absent (name, ((d, m, s, here, named, before, is, lacks, rose), l)) = λ text n words told none. absurd (no-names c.input text told none words d m named)
-refuses-none c status.RangePassed (inl (passed, ((p, x, reads, passes), l))) = λ text n words told none. absurd (no-names c.input text told none words Check reads.poses.fetches.names reads.poses.fetches.named)
-refuses-none c status.RangePassed (inr (program, problem, runs, front, pivots, passed, cut, listed)) = λ text n words told none. absurd (not-both c.input.words words runs.reads.words)
-refuses-none c status.CheckRefused (inl (fault, ((sets, p, poses, table, is, e), l))) = λ text n words told none. absurd (no-names c.input text told none words Check poses.fetches.names poses.fetches.named)
-refuses-none c status.CheckRefused (inr (told_why, ((p, x, why, reads, answered, is), l))) = λ text n words told none. absurd (no-names c.input text told none words Check reads.poses.fetches.names reads.poses.fetches.named)
+refuses-none c status.DataRefused (inl (set, ((d, m, name, here, named, before, is, many), l, kept))) = λ text n words told none. absurd (no-names c.input text told none words d m named)
+refuses-none c status.DataRefused (inr (inl (set, fault, ((d, sets, bytes, here, fetches, before, is, e), l, kept)))) = λ text n words told none. absurd (no-names c.input text told none words d fetches.names fetches.named)
+refuses-none c status.DataRefused (inr (inr (inl (set, fault, ((d, sets, fetches, t, tables, e), l, kept))))) = λ text n words told none. absurd (no-names c.input text told none words d fetches.names fetches.named)
+refuses-none c status.DataRefused (inr (inr (inr (fault, ((d, sets, fetches, t, tables, e), l, kept))))) = λ text n words told none. absurd (no-names c.input text told none words d fetches.names fetches.named)
+refuses-none c status.ReadFault ((d, w, inl rose), l, kept) = λ text n words told none. absurd (n.source rose)
+refuses-none c status.ReadFault ((d, w, inr (m, named, rose)), l, kept) = λ text n words told none. absurd (n.library rose)
+refuses-none c status.WriteFault (inl h) = λ text n words told none. absurd (n.listing h.0)
+refuses-none c status.WriteFault (inr (rose, (program, problem, runs, stops))) = λ text n words told none. absurd (not-both c.input.words words runs.reads.words)
+refuses-none c status.Absent (name, ((d, m, s, here, named, before, is, lacks, rose), l, kept)) = λ text n words told none. absurd (no-names c.input text told none words d m named)
+refuses-none c status.RangePassed (inl (passed, ((p, x, reads, passes), l, kept))) = λ text n words told none. absurd (no-names c.input text told none words Check reads.poses.fetches.names reads.poses.fetches.named)
+refuses-none c status.RangePassed (inr (program, problem, runs, front, pivots, passed, cut, listed, kept)) = λ text n words told none. absurd (not-both c.input.words words runs.reads.words)
+refuses-none c status.CheckRefused (inl (fault, ((sets, p, poses, table, is, e), l, kept))) = λ text n words told none. absurd (no-names c.input text told none words Check poses.fetches.names poses.fetches.named)
+refuses-none c status.CheckRefused (inr (told_why, ((p, x, why, reads, answered, is), l, kept))) = λ text n words told none. absurd (no-names c.input text told none words Check reads.poses.fetches.names reads.poses.fetches.named)
 refuses-none c status.NoMemory h = λ text n words told none. inr refl
 refuses-none c status.WarmRefused h = absurd h

@@ -1,5 +1,5 @@
 -- What a call saw, from one step to the next, and the status of each refusal.
-use Rattle.std.proofs.Common.{Bool, true, false, if◌then◌else◌, Result, Ok, Err, IfErr, IfOk, IfSome, MatchResult, ◌≡◌, ◌∙◌, ◌≤◌, ◌<◌, ◌⊎◌, ℕ, List, [], Option, None, Some, ap, length, inl, inr, arith, refl, subst, sym}
+use Rattle.std.proofs.Common.{Bool, true, false, if◌then◌else◌, Result, Ok, Err, IfErr, IfOk, IfSome, MatchResult, ◌≡◌, ◌∙◌, ◌≤◌, ◌<◌, ◌⊎◌, ℕ, List, [], Option, None, Some, ap, append-nil, length, inl, inr, arith, refl, subst, subst₂, sym}
 use Rattle.nf_model.specs.Program.{LinearProgram}
 use Rattle.nf_prob.specs.declared.cert.Cert.{Cert}
 use Rattle.nf_cert.specs.Reading.{cert_read}
@@ -28,9 +28,33 @@ use Rattle.netflow.specs.declared.refusal.Refusal.TheVariants as refusal
 use Rattle.netflow.specs.declared.refusal.Stop.{Stop}
 use Rattle.netflow.specs.declared.refusal.Stop.TheVariants as stop
 use Rattle.netflow.specs.Lines.{refusal_line}
-use Rattle.netflow.specs.Outcome.{AreHeld, Call, Comes, FetchesSets, Input, IsHeldOrNone, Lists, ReadsCertificate, Refuses}
+use Rattle.netflow.specs.Outcome.{AreHeld, Call, Comes, FetchesSets, Input, IsHeldOrNone, KeepsLibrary, Lists, ReadsCertificate, Refuses, RunsOn}
+use Rattle.std.specs.Io.KnownBytes.{Appends, Consumes, IsAtEnd}
 use Rattle.netflow.specs.Status.{refusal_status}
+use Rattle.netflow.specs.Words.{IsCommand}
 use Rattle.netflow.specs.Steps.{IsPosed, IsStopOf, SawFetches, Stops, is_no_memory, stop_of_data, stop_of_roles, too_large}
+
+-- nothing is appended where nothing was written
+pub appends_nothing : (o : Option (List ℕ)) → Appends o o []
+appends_nothing None = tt
+appends_nothing (Some x) = sym (append-nil x)
+
+-- a run of what the call saw earlier
+pub runs-later : (i j : Input) (program : Program) (problem : LinearProgram) → i.words ≡ j.words → i.left ≡ j.left → i.rest ≡ j.rest → i.held ≡ j.held → RunsOn i program problem → RunsOn j program problem
+runs-later i j program problem words left rest held r = record {
+  reads = record {
+    words = subst (IsCommand Run) words r.reads.words;
+    text = r.reads.text;
+    taken = subst₂ (λ l m. Consumes l m r.reads.text) left rest r.reads.taken;
+    ended = subst IsAtEnd rest r.reads.ended;
+    spelled = r.reads.spelled;
+  };
+  names = r.names;
+  stands = r.stands;
+  sets = r.sets;
+  held = subst (λ h. AreHeld Run h r.names r.sets) held r.held;
+  posed = r.posed;
+}
 
 -- a later fetch is seen too
 pub saw-later : (i : Input) (holds held : Option Held) (before mid after : ℕ) (missed mids misses : List ℕ → ℕ) → SawFetches i holds before after missed misses
@@ -89,19 +113,19 @@ reads-of i s t problem certificate fetched tables posed claimed = record {
 }
 
 -- a refusal whose line was written has its status
-pub refused-comes : (c : Call) (r : Refusal) → Refuses c.input r → Lists c (refusal_line r) → Comes c (refusal_status r)
-refused-comes c refusal.Usage h l = (h, l)
-refused-comes c (refusal.NoProgram fault) h l = inl (fault, (h, l))
-refused-comes c refusal.NotStanding h l = inr (h, l)
-refused-comes c refusal.ReadFault h l = (h, l)
-refused-comes c (refusal.Absent name) h l = (name, (h, l))
-refused-comes c (refusal.TooLong set) h l = inl (set, (h, l))
-refused-comes c (refusal.NoTable set fault) h l = inr (inl (set, fault, (h, l)))
-refused-comes c (refusal.NoRoles set fault) h l = inr (inr (inl (set, fault, (h, l))))
-refused-comes c (refusal.NoNetwork fault) h l = inr (inr (inr (fault, (h, l))))
-refused-comes c (refusal.NoCertificate fault) h l = inl (fault, (h, l))
-refused-comes c (refusal.NotValid why) h l = inr (why, (h, l))
-refused-comes c (refusal.Range passed) h l = inl (passed, (h, l))
+pub refused-comes : (c : Call) (r : Refusal) → Refuses c.input r → Lists c (refusal_line r) → KeepsLibrary c → Comes c (refusal_status r)
+refused-comes c refusal.Usage h l k = (h, l, k)
+refused-comes c (refusal.NoProgram fault) h l k = inl (fault, (h, l, k))
+refused-comes c refusal.NotStanding h l k = inr (h, l, k)
+refused-comes c refusal.ReadFault h l k = (h, l, k)
+refused-comes c (refusal.Absent name) h l k = (name, (h, l, k))
+refused-comes c (refusal.TooLong set) h l k = inl (set, (h, l, k))
+refused-comes c (refusal.NoTable set fault) h l k = inr (inl (set, fault, (h, l, k)))
+refused-comes c (refusal.NoRoles set fault) h l k = inr (inr (inl (set, fault, (h, l, k))))
+refused-comes c (refusal.NoNetwork fault) h l k = inr (inr (inr (fault, (h, l, k))))
+refused-comes c (refusal.NoCertificate fault) h l k = inl (fault, (h, l, k))
+refused-comes c (refusal.NotValid why) h l k = inr (why, (h, l, k))
+refused-comes c (refusal.Range passed) h l k = inl (passed, (h, l, k))
 
 -- what holds of an answer, of what held of it before
 pub ok-then : {A B : Type 0} (r : Result A B) {P Q : A → Type 0} → IfOk r P → ((x : A) → P x → Q x) → IfOk r Q

@@ -1,8 +1,8 @@
 -- The headline: what a planner may rely on where a certificate is accepted or a run is listed, and where one must be.
-use Rattle.std.specs.Prelude.{◌≡◌, ◌⊎◌, ℕ, List, Some}
+use Rattle.std.specs.Prelude.{◌≡◌, ◌⊎◌, ℕ, List, Option, Some}
 use Rattle.nf_num.specs.Rational.{ℚ}
 use Rattle.nf_io.specs.Causes.{Rose}
-use Rattle.nf_io.specs.Held.{Held}
+use Rattle.nf_io.specs.Held.{Held, Stored}
 use Rattle.nf_program.specs.declared.program.Command.TheVariants.{Check}
 use Rattle.nf_program.specs.declared.program.Program.{Program}
 use Rattle.nf_program.specs.declared.program.StmtFault.{StmtFault}
@@ -12,14 +12,17 @@ use Rattle.nf_model.specs.Program.{LinearProgram, IsBest, cost_of}
 use Rattle.nf_model.specs.Certificate.{IsValidBest}
 use Rattle.nf_model.specs.Farkas.{HasNoFeasible, IsGap, IsValidFarkas}
 use Rattle.nf_model.specs.Ray.{HasNoLeastCost, IsValidRay}
-use Rattle.nf_run.specs.Runs.{IsListing}
+use Rattle.nf_run.specs.declared.line.HaltLine.{HaltLine}
+use Rattle.nf_run.specs.Endings.{IsSavedAs, Stores}
+use Rattle.nf_run.specs.Stops.{IsListing}
+use Rattle.nf_run.specs.Verdicts as run
 use Rattle.nf_prob.specs.declared.cert.Cert.{Cert}
 use Rattle.nf_prob.specs.declared.cert.Cert.TheVariants as cert
 use Rattle.netflow.specs.declared.status.Status.{Status}
 use Rattle.netflow.specs.declared.status.Status.TheVariants as status
 use Rattle.netflow.specs.Data.{Sets, IsCertificateOf, IsProblemOf}
 use Rattle.netflow.specs.Lines.{accepted_lines, claim_line}
-use Rattle.netflow.specs.Outcome.{AreHeld, Call, Input, Lists, ReadsCertificate, RunsOn}
+use Rattle.netflow.specs.Outcome.{AreHeld, Call, Input, KeepsLibrary, Lists, ReadsCertificate, RunsOn}
 use Rattle.netflow.specs.Standing.{IsStanding, SetNames, StandsForCheck}
 use Rattle.netflow.specs.Words.{IsCommand}
 
@@ -40,18 +43,42 @@ pub record ClaimIsProved (c : Call) : Type 0 where
   pub proves : Proves problem certificate number
   pub listed : Lists c (accepted_lines (claim_line problem.maximizes certificate number))
 
+-- A certificate is valid.
+abbrev pub IsValid : LinearProgram → Cert → Type 0
+IsValid p (cert.Best flows duals) = IsValidBest p flows duals
+IsValid p (cert.Farkas duals) = IsValidFarkas p duals
+IsValid p (cert.Ray flows ray) = IsValidRay p flows ray
+
 -- A run is explained: the data sets of the program stand for this problem, and the listing is that of a run of the
--- program on it, statement by statement. Each line is what it says: OPTIMAL that the flows of the state at which it
--- comes are feasible, that none cost less, by the state's printed duals, and what they cost; INFEASIBLE and UNBOUNDED
--- that the state has ended so, with the sum of its artificials, or its rate; HALTED that the program's own limit is
--- met.
+-- program on it, statement by statement. Each line is what it says, and each verdict comes with a valid certificate:
+-- OPTIMAL, that the flows of the state at which it comes are feasible, that none cost less, and what they cost;
+-- INFEASIBLE, that no flows are feasible, with the gap; UNBOUNDED, that the costs of feasible flows have no least, with
+-- the rate; HALTED, that the program's own limit is met. What was stored, under the name that the program gives, is what
+-- the listing says.
 pub record RunIsExplained (c : Call) : Type 0 where
   pub program : Program
   pub problem : LinearProgram
   pub runs : RunsOn c.input program problem
+  pub stored : Option (List ℕ)
   pub text : List ℕ
-  pub listing : IsListing problem program.proc.session program.acts text
+  pub listing : IsListing problem program.proc.session program.acts program.proc.certout stored text
   pub listed : Lists c text
+  pub kept : Stores program.proc.certout stored c.input.held c.held
+
+-- The bytes are the table of a certificate, which is valid and proves this verdict.
+pub record IsProofOf (p : LinearProgram) (told : HaltLine) (bytes : List ℕ) : Type 0 where
+  pub certificate : Cert
+  pub rows : ℕ
+  pub saved : IsSavedAs p certificate rows bytes
+  pub proves : run.Proves p certificate told
+  pub valid : IsValid p certificate
+
+-- What a run stores is the table of a valid certificate of the problem of its data sets, and proves its last verdict.
+pub record StoresProof (c : Call) : Type 0 where
+  pub program : Program
+  pub problem : LinearProgram
+  pub runs : RunsOn c.input program problem
+  pub nothing_or_proof : KeepsLibrary c ⊎ ((name bytes : List ℕ) × (told : HaltLine) × (program.proc.certout ≡ Some name) × Stored c.input.held c.held name bytes × IsProofOf problem told bytes)
 
 -- No count of faults rose in the call.
 pub record NothingFails (c : Call) : Type 0 where
@@ -75,12 +102,6 @@ pub record Claims (i : Input) (problem : LinearProgram) (certificate : Cert) : T
   pub holds : AreHeld Check i.held names sets
   pub posed : IsProblemOf program sets problem
   pub claimed : IsCertificateOf sets.certdata problem certificate
-
--- A certificate is valid.
-abbrev pub IsValid : LinearProgram → Cert → Type 0
-IsValid p (cert.Best flows duals) = IsValidBest p flows duals
-IsValid p (cert.Farkas duals) = IsValidFarkas p duals
-IsValid p (cert.Ray flows ray) = IsValidRay p flows ray
 
 -- Where nothing fails, a valid certificate is accepted, unless a number passes 128 bits or memory runs out.
 abbrev pub AcceptsTheValid : Call → Status → Type 0

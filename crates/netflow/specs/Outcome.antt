@@ -34,7 +34,10 @@ use Rattle.nf_program.specs.declared.program.SetName.TheVariants as set
 use Rattle.netflow.specs.declared.status.Status.{Status}
 use Rattle.netflow.specs.declared.status.Status.TheVariants as status
 use Rattle.nf_run.specs.declared.line.HaltLine.{HaltLine}
-use Rattle.nf_run.specs.Runs.{IsCut, IsFront, IsListing}
+use Rattle.nf_run.specs.Runs.{IsCut, IsFront}
+use Rattle.nf_run.specs.Stops.{ListsAll, ListsPart, StopsAtStore}
+use Rattle.nf_program.specs.declared.program.SessionOptions.{SessionOptions}
+use Rattle.nf_program.specs.declared.program.Statement.{Statement}
 use Rattle.netflow.specs.Data.{Fetches, Grids, Sets, AreTables, AreTablesBefore, IsCertificateOf, IsProblemOf, IsTable, bytes_of, data_of}
 use Rattle.netflow.specs.Lines.{accepted_lines, claim_line, in_own_words, refusal_line, step_range_line}
 use Rattle.netflow.specs.Standing.{IsStanding, SetNames, StandsFor, StandsForRun, most_program}
@@ -53,13 +56,17 @@ pub record Input : Type 0 where
   pub misses : List ℕ → ℕ
   pub misses_after : List ℕ → ℕ
 
--- What a call took in and gave out: its listing before and after.
+-- What a call took in and gave out: its listing before and after, what its library then held, and how often a store of
+-- this library had failed before and after.
 pub record Call : Type 0 where
   pub input : Input
   pub written : Option (List ℕ)
   pub put : Option (List ℕ)
   pub sink_faults : ℕ
   pub sink_faults_after : ℕ
+  pub held : Option Held
+  pub store_faults : ℕ
+  pub store_faults_after : ℕ
 
 -- ---- what was met, in the order of answers
 -- The words are those of the command, and the whole source is a text of this program.
@@ -182,16 +189,27 @@ IsDue i text = ((line : HaltLine) × Accepts i line × (text ≡ accepted_lines 
 abbrev pub Lists : Call → List ℕ → Type 0
 Lists c bytes = Appends c.written c.put bytes
 
--- The call was refused for this reason, and its line was written.
+-- The library holds what it held before the call.
+abbrev pub KeepsLibrary : Call → Type 0
+KeepsLibrary c = c.held ≡ c.input.held
+
+-- The call was refused for this reason, its line was written, and nothing was stored.
 abbrev pub Refused : Call → Refusal → Type 0
-Refused c r = Refuses c.input r × Lists c (refusal_line r)
+Refused c r = Refuses c.input r × Lists c (refusal_line r) × KeepsLibrary c
+
+-- A text that is due was written, or a first part of it, and nothing was stored.
+abbrev pub WritesPart : Call → Type 0
+WritesPart c = (text : List ℕ) × IsDue c.input text × PutPrefix c.written c.put text × KeepsLibrary c
+
+-- The call ran this program on this problem, obeyed all of it, and then ended so: by its listing and its library, before
+-- and after, under the name that the program gives for its certificate.
+abbrev pub EndsRun : Call → (LinearProgram → SessionOptions → List Statement → Option (List ℕ) → Option (List ℕ) → Option (List ℕ) → Option Held → Option Held → Type 0) → Type 0
+EndsRun c how = (program : Program) × (problem : LinearProgram) × RunsOn c.input program problem × how problem program.proc.session program.acts program.proc.certout c.written c.put c.input.held c.held
 
 -- When each status comes.
 abbrev pub Comes : Call → Status → Type 0
--- `check` accepted the certificate, or `run` obeyed the whole program
-Comes c status.Finished =
-    ((line : HaltLine) × Accepts c.input line × Lists c (accepted_lines line))
-    ⊎ ((program : Program) × (problem : LinearProgram) × RunsOn c.input program problem × (text : List ℕ) × IsListing problem program.proc.session program.acts text × Lists c text)
+-- `check` accepted the certificate, or `run` obeyed the whole program, and stored the certificate that was due
+Comes c status.Finished = ((line : HaltLine) × Accepts c.input line × Lists c (accepted_lines line) × KeepsLibrary c) ⊎ EndsRun c ListsAll
 Comes c status.Usage = Refused c refusal.Usage
 Comes c status.ProgramRefused = ((fault : StmtFault) × Refused c (refusal.NoProgram fault)) ⊎ Refused c refusal.NotStanding
 Comes c status.DataRefused = ((s : SetName) × Refused c (refusal.TooLong s)) ⊎ ((s : SetName) × (fault : TableFault) × Refused c (refusal.NoTable s fault)) ⊎ ((s : SetName) × (fault : RoleFault) × Refused c (refusal.NoRoles s fault)) ⊎ ((fault : DataFault) × Refused c (refusal.NoNetwork fault))
@@ -201,11 +219,11 @@ Comes c status.Absent = (name : List ℕ) × Refused c (refusal.Absent name)
 Comes c status.RangePassed =
     ((passed : Passed) × Refused c (refusal.Range passed))
     ⊎ ((program : Program) × (problem : LinearProgram) × RunsOn c.input program problem × (front : List ℕ) × (pivots : ℕ) × (passed : Passed)
-    × IsCut problem program.proc.session program.acts front pivots passed × Lists c (front ++ step_range_line pivots passed))
+    × IsCut problem program.proc.session program.acts front pivots passed × Lists c (front ++ step_range_line pivots passed) × KeepsLibrary c)
 Comes c status.CheckRefused = ((fault : CertFault) × Refused c (refusal.NoCertificate fault)) ⊎ ((why : Why) × Refused c (refusal.NotValid why))
--- the listing failed in the text that is due, of which a first part was written
-Comes c status.WriteFault = Rose c.sink_faults c.sink_faults_after × (line : List ℕ) × IsDue c.input line × PutPrefix c.written c.put line
+-- the listing failed, in the text that is due or behind the store at the end of a run; or that store failed
+Comes c status.WriteFault = (Rose c.sink_faults c.sink_faults_after × (WritesPart c ⊎ EndsRun c ListsPart)) ⊎ (Rose c.store_faults c.store_faults_after × EndsRun c StopsAtStore)
 -- memory ran out, before a text was due or within it
-Comes c status.NoMemory = Lists c [] ⊎ ((line : List ℕ) × IsDue c.input line × PutPrefix c.written c.put line)
+Comes c status.NoMemory = (Lists c [] × KeepsLibrary c) ⊎ WritesPart c ⊎ EndsRun c ListsPart
 -- it comes with saved tables alone, which no command reads yet
 Comes c status.WarmRefused = ⊥

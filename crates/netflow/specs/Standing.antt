@@ -53,11 +53,11 @@ is_first First = true
 is_first Best = false
 is_first Bland = false
 
--- PROC asks for saved tables or outputs.
+-- PROC asks for saved tables, or for outputs other than CERTOUT=.
 abbrev pub asks_tables : ProcOptions → Bool
 asks_tables p =
     p.warm || is_some p.conin || is_some p.dualin || is_some p.sessiondata
-    || is_some p.arcout || is_some p.nodeout || is_some p.conout || is_some p.dualout || is_some p.sessionout || is_some p.certout
+    || is_some p.arcout || is_some p.nodeout || is_some p.conout || is_some p.dualout || is_some p.sessionout
 
 -- A session option other than MAXIT1= and PRICETYPE1= has not its default.
 abbrev pub asks_more : SessionOptions → Bool
@@ -65,8 +65,9 @@ asks_more o =
     not (o.maxit2 == 1000000) || not (o.pause1 == 0) || not (o.pause2 == 0)
     || o.feasiblepause1 || o.feasiblepause2 || o.endpause1 || o.future1 || o.future2 || not (is_first o.pricetype2)
 
--- `run` takes a program whose PROC names ARCDATA= and has of session options MAXIT1= and PRICETYPE1= alone, that does not
--- speak of side constraints, and has of acts RUN and QUIT alone. CERTDATA= may stand there: it is not looked at.
+-- `run` takes a program whose PROC names ARCDATA=, has of outputs CERTOUT= alone and of session options MAXIT1= and
+-- PRICETYPE1= alone, that does not speak of side constraints, and has of acts RUN and QUIT alone. CERTDATA= may stand
+-- there: it is not looked at.
 pub record StandsForRun (p : Program) (n : SetNames) : Type 0 where
   pub arcdata : p.proc.arcdata ≡ Some n.arcdata
   pub nodedata : p.proc.nodedata ≡ n.nodedata

@@ -77,8 +77,8 @@ fn is_of_constraints(role: Role) -> bool
     )
 }
 
-// The name of a data set as text, where it is there.
-fn text_of(name: &Option<Name>) -> Option<&str>
+/// The name of a data set as text, where it is there.
+pub(crate) fn text_of(name: &Option<Name>) -> Option<&str>
     requires text { IfSome name.now IsUtf8 }
     ensures { lent_name result ≡ name.now }
 {
@@ -111,7 +111,7 @@ pub(crate) fn names_for_check(program: &Program) -> Option<SetNames<'_>>
     })
 }
 
-// Whether PROC asks for saved tables or outputs.
+// Whether PROC asks for saved tables, or for outputs other than CERTOUT=.
 fn asks_tables(p: &ProcOptions) -> bool
     ensures { result ≡ asks_tables p.now }
 {
@@ -124,7 +124,6 @@ fn asks_tables(p: &ProcOptions) -> bool
         || p.conout.is_some()
         || p.dualout.is_some()
         || p.sessionout.is_some()
-        || p.certout.is_some()
 }
 
 // Whether a session option other than MAXIT1= and PRICETYPE1= has not its default.

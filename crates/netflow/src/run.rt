@@ -1,6 +1,8 @@
 //! The run of a program on its problem.
-ghost use Rattle.std.specs.Prelude.{true, ◌≡◌, ◌≤◌, ℕ, List, Option};
+ghost use Rattle.std.specs.Prelude.{true, ◌≡◌, ◌≤◌, ℕ, List, Option, IfSome};
 ghost use Rattle.std.specs.Io.KnownBytes.{Appends};
+ghost use Rattle.std.specs.Str.{IsUtf8};
+ghost use Rattle.nf_io.specs.Held.{Held};
 ghost use Rattle.nf_model.specs.Program.{LinearProgram};
 ghost use Rattle.nf_program.specs.declared.program.Program.{Program as ProgramRead};
 ghost use Rattle.nf_run.specs.Runs.{IsCut};
@@ -9,9 +11,10 @@ ghost use Rattle.nf_run.specs.Stops.{are_standing};
 ghost use Rattle.netflow.specs.Outcome.{Call, Comes, Input, RunsOn};
 
 use crate::lines;
+use crate::program::text_of;
 use crate::status::Status;
 use nf_frac::Passed;
-use nf_io::{PutFault, Sink, write_all};
+use nf_io::{Library, PutFault, Sink, write_all};
 use nf_prob::Problem;
 use nf_run::{RunFault, run_program};
 use nf_stmt::Program;
@@ -20,16 +23,19 @@ use std::alloc::Global;
 // Tells an operation of a run that passes 128 bits, behind the lines of the statements before it.
 fn tell_range<K: Sink>(alloc: Global, pivots: u64, passed: Passed, listing: &mut K) -> Status
     ensures calm { K.quiet listing.old ≡ true → K.faults listing.new ≡ K.faults listing.old }
-    ensures comes { (input : Input) (program : ProgramRead) (problem : LinearProgram) (front : List ℕ) (written : Option (List ℕ)) (faults : ℕ) →
+    ensures comes { (input : Input) (program : ProgramRead) (problem : LinearProgram) (front : List ℕ) (written : Option (List ℕ)) (faults : ℕ) (held : Option Held) (stores stores_after : ℕ) →
         let call : Call = record {
           input = input;
           written = written;
           put = K.written listing.new;
           sink_faults = faults;
           sink_faults_after = K.faults listing.new;
+          held = held;
+          store_faults = stores;
+          store_faults_after = stores_after;
         } in
         RunsOn input program problem → IsCut problem program.proc.session program.acts front pivots passed
-        → Appends written (K.written listing.old) front → faults ≤ K.faults listing.old → Comes call result }
+        → Appends written (K.written listing.old) front → faults ≤ K.faults listing.old → held ≡ input.held → Comes call result }
 {
     let Ok(line) = lines::step_range(alloc, pivots, &passed) else {
         return Status::NoMemory;
@@ -42,28 +48,38 @@ fn tell_range<K: Sink>(alloc: Global, pivots: u64, passed: Passed, listing: &mut
 }
 
 /// Obeys the statements of a program on its problem, and answers how that ended. Where an operation passes 128 bits, the
-/// last line of the listing tells it.
-pub(crate) fn run<K: Sink>(
+/// last line of the listing tells it. The certificate of the last verdict is stored in the library, where the program
+/// names a data set for it.
+pub(crate) fn run<K: Sink, L: Library>(
     alloc: Global,
     problem: &Problem,
     program: &Program,
     listing: &mut K,
+    library: &mut L,
 ) -> Status
     requires plain { IsPlain problem.now }
     requires acts { are_standing program.now.acts ≡ true }
+    requires certout { IfSome program.now.proc.certout IsUtf8 }
+    ensures fetches { L.fetch_faults library.new ≡ L.fetch_faults library.old }
+    ensures misses { (q : List ℕ) → L.misses library.old q ≤ L.misses library.new q }
     ensures calm { K.quiet listing.old ≡ true → K.faults listing.new ≡ K.faults listing.old }
-    ensures comes { (input : Input) →
+    ensures stores_calm { L.quiet_stores library.old ≡ true → L.store_faults library.new ≡ L.store_faults library.old }
+    ensures comes { (input : Input) (stores : ℕ) →
         let call : Call = record {
           input = input;
           written = K.written listing.old;
           put = K.written listing.new;
           sink_faults = K.faults listing.old;
           sink_faults_after = K.faults listing.new;
+          held = L.held library.new;
+          store_faults = stores;
+          store_faults_after = L.store_faults library.new;
         } in
-        RunsOn input program.now problem.now → Comes call result }
+        RunsOn input program.now problem.now → L.held library.old ≡ input.held → L.store_faults library.old ≡ stores → Comes call result }
 {
     let (options, acts) = (&program.proc.session, program.acts.items());
-    let fault = match run_program(alloc, problem, options, acts, listing) {
+    let certout = text_of(&program.proc.certout);
+    let fault = match run_program(alloc, problem, options, acts, certout, listing, library) {
         Ok(()) => return Status::Finished,
         Err(fault) => fault,
     };

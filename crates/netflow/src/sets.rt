@@ -50,6 +50,7 @@ fn fetch_set<L: Library>(
     ensures faults { L.fetch_faults library.old ≤ L.fetch_faults library.new }
     ensures misses { (q : List ℕ) → L.misses library.old q ≤ L.misses library.new q }
     ensures quiet { L.quiet_fetches library.new ≡ L.quiet_fetches library.old }
+    ensures quiet_stores { L.quiet_stores library.new ≡ L.quiet_stores library.old }
     ensures calm { L.quiet_fetches library.old ≡ true → L.fetch_faults library.new ≡ L.fetch_faults library.old }
     ensures ok { IfOk result (λ v. HasName (L.held library.old) name.now v.items) }
     ensures stops { IfErr result (λ stop. (i : Input) (c : Commands) (n : Named) →
@@ -80,6 +81,7 @@ fn fetch_nodedata<L: Library>(
     ensures faults { L.fetch_faults library.old ≤ L.fetch_faults library.new }
     ensures misses { (q : List ℕ) → L.misses library.old q ≤ L.misses library.new q }
     ensures quiet { L.quiet_fetches library.new ≡ L.quiet_fetches library.old }
+    ensures quiet_stores { L.quiet_stores library.new ≡ L.quiet_stores library.old }
     ensures calm { L.quiet_fetches library.old ≡ true → L.fetch_faults library.new ≡ L.fetch_faults library.old }
     ensures ok { IfOk result (λ v. IsHeldOrNone (L.held library.old) (lent_name name.entry) (bytes_in v)) }
     ensures stops { IfErr result (λ stop. (i : Input) (c : Commands) (n : Named) →
@@ -107,6 +109,7 @@ fn fetch_certdata<L: Library>(
     ensures faults { L.fetch_faults library.old ≤ L.fetch_faults library.new }
     ensures misses { (q : List ℕ) → L.misses library.old q ≤ L.misses library.new q }
     ensures quiet { L.quiet_fetches library.new ≡ L.quiet_fetches library.old }
+    ensures quiet_stores { L.quiet_stores library.new ≡ L.quiet_stores library.old }
     ensures calm { L.quiet_fetches library.old ≡ true → L.fetch_faults library.new ≡ L.fetch_faults library.old }
     ensures ok { IfOk result (λ v. command ≡ Command.Check → HasName (L.held library.old) name.now v.items) }
     ensures stops { IfErr result (λ stop. (i : Input) (n : Named) →
@@ -135,6 +138,7 @@ pub(crate) fn fetch_sets<L: Library>(
     ensures faults { L.fetch_faults library.old ≤ L.fetch_faults library.new }
     ensures misses { (q : List ℕ) → L.misses library.old q ≤ L.misses library.new q }
     ensures quiet { L.quiet_fetches library.new ≡ L.quiet_fetches library.old }
+    ensures quiet_stores { L.quiet_stores library.new ≡ L.quiet_stores library.old }
     ensures calm { L.quiet_fetches library.old ≡ true → L.fetch_faults library.new ≡ L.fetch_faults library.old }
     ensures ok { IfOk result (λ s. AreHeld command (L.held library.old) (names_of names.entry) (sets_of s)) }
     ensures stops { IfErr result (λ stop. (i : Input) →

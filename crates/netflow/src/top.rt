@@ -1,13 +1,14 @@
 //! The whole call.
-ghost use Rattle.std.specs.Prelude.{true, ◌≡◌, ◌≤◌, ℕ, List, IfOk, IfErr, IfSome, MatchResult, map};
+ghost use Rattle.std.specs.Prelude.{true, ◌≡◌, ◌≤◌, ℕ, List, Option, IfOk, IfErr, IfSome, MatchResult, map};
 ghost use Rattle.nf_frac.specs.Amounts.{IsAmount};
+ghost use Rattle.nf_io.specs.Held.{Held};
 ghost use Rattle.std.specs.Io.KnownBytes.{Consumes, IsAtEnd};
 ghost use Rattle.std.specs.String.{string_bytes};
 ghost use Rattle.nf_program.specs.declared.program.Command.{Command as Commands};
 ghost use Rattle.nf_program.specs.declared.program.Command.TheVariants.{Check, Run};
 ghost use Rattle.nf_program.specs.Grammar.{HasProgram};
 ghost use Rattle.netflow.specs.Data.{IsProblemOf, Sets as SetBytes};
-ghost use Rattle.netflow.specs.Headline.{AcceptsTheValid, ClaimIsProved, RefusesNoProgram, RunIsExplained};
+ghost use Rattle.netflow.specs.Headline.{AcceptsTheValid, ClaimIsProved, RefusesNoProgram, RunIsExplained, StoresProof};
 ghost use Rattle.netflow.specs.Outcome.{Accepts, AreHeld, Call, Comes, Input, IsDue, Lists, NamesSets, ReadsProgram, RunsOn};
 ghost use Rattle.netflow.specs.Steps.{SawFetches, SawSource, Stops, names_of};
 ghost use Rattle.netflow.specs.Words.{IsCommand};
@@ -123,6 +124,7 @@ fn load_problem<L: Library>(
     requires demand { IfSome program.now.proc.demand IsAmount }
     ensures held { L.held library.new ≡ L.held library.old }
     ensures stores { L.store_faults library.new ≡ L.store_faults library.old }
+    ensures quiet_stores { L.quiet_stores library.new ≡ L.quiet_stores library.old }
     ensures library_calm { L.quiet_fetches library.old ≡ true → L.fetch_faults library.new ≡ L.fetch_faults library.old }
     ensures posed { IfOk result (λ p. (s : SetBytes) × AreHeld Run (L.held library.old) (names_of names.entry) s × IsProblemOf program.now s p) }
     ensures stops { IfErr result (λ stop. (i : Input) →
@@ -144,6 +146,7 @@ fn run_input<S: Source, L: Library>(
     requires command { IsCommand Run (map string_bytes words.now) }
     ensures held { L.held library.new ≡ L.held library.old }
     ensures stores { L.store_faults library.new ≡ L.store_faults library.old }
+    ensures quiet_stores { L.quiet_stores library.new ≡ L.quiet_stores library.old }
     ensures source_calm { S.quiet source.old ≡ true → S.faults source.new ≡ S.faults source.old }
     ensures library_calm { L.quiet_fetches library.old ≡ true → L.fetch_faults library.new ≡ L.fetch_faults library.old }
     ensures input { let input : Input = record {
@@ -171,15 +174,18 @@ fn run_input<S: Source, L: Library>(
 // Writes the last line of the listing, and answers the status that it tells.
 fn conclude<K: Sink>(listing: &mut K, line: Result<Text, AllocError>, status: Status) -> Status
     ensures calm { K.quiet listing.old ≡ true → K.faults listing.new ≡ K.faults listing.old }
-    ensures comes { (input : Input) (due : List ℕ) →
+    ensures comes { (input : Input) (due : List ℕ) (held : Option Held) (stores stores_after : ℕ) →
         let call : Call = record {
           input = input;
           written = K.written listing.old;
           put = K.written listing.new;
           sink_faults = K.faults listing.old;
           sink_faults_after = K.faults listing.new;
+          held = held;
+          store_faults = stores;
+          store_faults_after = stores_after;
         } in
-        IfOk line (λ t. t ≡ due) → IsDue input due → (Lists call due → Comes call status) → Comes call result }
+        IfOk line (λ t. t ≡ due) → IsDue input due → held ≡ input.held → (Lists call due → Comes call status) → Comes call result }
 {
     let Ok(line) = line else {
         return Status::NoMemory;
@@ -222,6 +228,9 @@ fn check_words<S: Source, L: Library, K: Sink>(
       put = K.written listing.new;
       sink_faults = K.faults listing.old;
       sink_faults_after = K.faults listing.new;
+      held = L.held library.new;
+      store_faults = L.store_faults library.old;
+      store_faults_after = L.store_faults library.new;
     } in
         Comes call result }
 {
@@ -241,8 +250,7 @@ fn run_words<S: Source, L: Library, K: Sink>(
     listing: &mut K,
 ) -> Status
     requires command { IsCommand Run (map string_bytes words.now) }
-    ensures held { L.held library.new ≡ L.held library.old }
-    ensures stores { L.store_faults library.new ≡ L.store_faults library.old }
+    ensures stores_calm { L.quiet_stores library.old ≡ true → L.store_faults library.new ≡ L.store_faults library.old }
     ensures source_calm { S.quiet program.old ≡ true → S.faults program.new ≡ S.faults program.old }
     ensures library_calm { L.quiet_fetches library.old ≡ true → L.fetch_faults library.new ≡ L.fetch_faults library.old }
     ensures listing_calm { K.quiet listing.old ≡ true → K.faults listing.new ≡ K.faults listing.old }
@@ -263,11 +271,14 @@ fn run_words<S: Source, L: Library, K: Sink>(
       put = K.written listing.new;
       sink_faults = K.faults listing.old;
       sink_faults_after = K.faults listing.new;
+      held = L.held library.new;
+      store_faults = L.store_faults library.old;
+      store_faults_after = L.store_faults library.new;
     } in
         Comes call result }
 {
     match run_input(alloc, words, program, library) {
-        Ok(loaded) => run(alloc, &loaded.problem, &loaded.program, listing),
+        Ok(loaded) => run(alloc, &loaded.problem, &loaded.program, listing, library),
         Err(Stop::Refused(refusal)) => { conclude(listing, refusal.line(alloc), refusal.status()) }
         Err(Stop::NoMemory) => Status::NoMemory,
     }
@@ -279,14 +290,15 @@ fn run_words<S: Source, L: Library, K: Sink>(
 /// of CERTDATA exactly where it is valid for the problem of ARCDATA and NODEDATA; the listing then has `ACCEPTED` with
 /// what the certificate claims. `run` reads a program, fetches ARCDATA and NODEDATA, and obeys its statements on their
 /// problem; the listing has the lines of each RUN, statement by statement, and behind them that of an operation that
-/// passes 128 bits.
+/// passes 128 bits. At the end `run` stores the certificate of the last verdict, where the program names CERTOUT=, and
+/// the listing says so.
 ///
 /// Else the listing has the line of one refusal, the first in this order: the words; the source; the program's text;
 /// what the command takes of the language; the fetches; the tables; the roles of their columns; the data; the size of the
 /// problem; and for `check` the table
 /// of the certificate; its validity, or a number that passes 128 bits. What is written is always the front of that
-/// listing: `WriteFault` comes where a put failed in it, and `NoMemory` where memory ran out, there or before. The
-/// library is left as it was.
+/// listing: `WriteFault` comes where a put failed in it, or the store, and `NoMemory` where memory ran out, there or
+/// before. But for that one store the library is left as it was.
 pub fn netflow<S: Source, L: Library, K: Sink>(
     alloc: Global,
     words: &[String],
@@ -311,6 +323,9 @@ pub fn netflow<S: Source, L: Library, K: Sink>(
       put = K.written listing.new;
       sink_faults = K.faults listing.old;
       sink_faults_after = K.faults listing.new;
+      held = L.held library.new;
+      store_faults = L.store_faults library.old;
+      store_faults_after = L.store_faults library.new;
     } in
         Comes call result }
     ensures accepted { let call : Call = record {
@@ -330,6 +345,9 @@ pub fn netflow<S: Source, L: Library, K: Sink>(
       put = K.written listing.new;
       sink_faults = K.faults listing.old;
       sink_faults_after = K.faults listing.new;
+      held = L.held library.new;
+      store_faults = L.store_faults library.old;
+      store_faults_after = L.store_faults library.new;
     } in
         result ≡ Status.Finished → IsCommand Check call.input.words → ClaimIsProved call }
     ensures planned { let call : Call = record {
@@ -349,8 +367,33 @@ pub fn netflow<S: Source, L: Library, K: Sink>(
       put = K.written listing.new;
       sink_faults = K.faults listing.old;
       sink_faults_after = K.faults listing.new;
+      held = L.held library.new;
+      store_faults = L.store_faults library.old;
+      store_faults_after = L.store_faults library.new;
     } in
         result ≡ Status.Finished → IsCommand Run call.input.words → RunIsExplained call }
+    ensures stored { let call : Call = record {
+      input = record {
+        words = map string_bytes words.now;
+        left = S.left program.old;
+        rest = S.left program.new;
+        source_faults = S.faults program.old;
+        source_faults_after = S.faults program.new;
+        held = L.held library.old;
+        fetch_faults = L.fetch_faults library.old;
+        fetch_faults_after = L.fetch_faults library.new;
+        misses = L.misses library.old;
+        misses_after = L.misses library.new;
+      };
+      written = K.written listing.old;
+      put = K.written listing.new;
+      sink_faults = K.faults listing.old;
+      sink_faults_after = K.faults listing.new;
+      held = L.held library.new;
+      store_faults = L.store_faults library.old;
+      store_faults_after = L.store_faults library.new;
+    } in
+        result ≡ Status.Finished → IsCommand Run call.input.words → StoresProof call }
     ensures complete { let call : Call = record {
       input = record {
         words = map string_bytes words.now;
@@ -368,6 +411,9 @@ pub fn netflow<S: Source, L: Library, K: Sink>(
       put = K.written listing.new;
       sink_faults = K.faults listing.old;
       sink_faults_after = K.faults listing.new;
+      held = L.held library.new;
+      store_faults = L.store_faults library.old;
+      store_faults_after = L.store_faults library.new;
     } in
         AcceptsTheValid call result }
     ensures refused { let call : Call = record {
@@ -387,10 +433,14 @@ pub fn netflow<S: Source, L: Library, K: Sink>(
       put = K.written listing.new;
       sink_faults = K.faults listing.old;
       sink_faults_after = K.faults listing.new;
+      held = L.held library.new;
+      store_faults = L.store_faults library.old;
+      store_faults_after = L.store_faults library.new;
     } in
         RefusesNoProgram call result }
-    ensures held { L.held library.new ≡ L.held library.old }
-    ensures stores { L.store_faults library.new ≡ L.store_faults library.old }
+    ensures held { (IsCommand Run (map string_bytes words.now) → ⊥) → L.held library.new ≡ L.held library.old }
+    ensures stores { (IsCommand Run (map string_bytes words.now) → ⊥) → L.store_faults library.new ≡ L.store_faults library.old }
+    ensures stores_calm { L.quiet_stores library.old ≡ true → L.store_faults library.new ≡ L.store_faults library.old }
     ensures source_calm { S.quiet program.old ≡ true → S.faults program.new ≡ S.faults program.old }
     ensures library_calm { L.quiet_fetches library.old ≡ true → L.fetch_faults library.new ≡ L.fetch_faults library.old }
     ensures listing_calm { K.quiet listing.old ≡ true → K.faults listing.new ≡ K.faults listing.old }

@@ -1,22 +1,32 @@
 use Rattle.std.proofs.Common.{◌∙◌}
-use Rattle.netflow.proofs.RunFacts.{run_cut, run_memory, run_write}
+use Rattle.std.specs.Option.{option_copied}
+use Rattle.netflow.proofs.RunFacts.{call_of, lent_is, run_all, run_cut, run_memory, run_write}
 use Rattle.netflow.proofs.run.run.Goals as goal
+
+pub returns-in-Ok-clause-comes : goal.returns-in-Ok-clause-comes
+returns-in-Ok-clause-comes g c = λ input stores runs from since.
+    run_all (call_of input (g.K.Sink.written c.args.listing.now) (g.K.Sink.written c.run_program.new.listing) (g.K.Sink.faults c.args.listing.now) (g.K.Sink.faults c.run_program.new.listing) (g.L.Library.held c.run_program.new.library) stores (g.L.Library.store_faults c.run_program.new.library))
+    c.args.program.now c.args.problem.now runs c.items-acts.result.now (option_copied c.text_of-certout.result) (g.L.Library.held c.args.library.now) (g.L.Library.store_faults c.args.library.now)
+    c.items-acts.ensures (lent_is c.text_of-certout.result _ c.text_of-certout.ensures) from since c.in-Ok.ensures.ok
 
 pub returns-in-Range-clause-calm : goal.returns-in-Range-clause-calm
 returns-in-Range-clause-calm g c = λ h. c.tell_range.ensures.calm (c.run_program.ensures.quiet ∙ h) ∙ c.run_program.ensures.calm h
 
 pub returns-in-Range-clause-comes : goal.returns-in-Range-clause-comes
-returns-in-Range-clause-comes g c = λ input runs.
-    let k = run_cut c.args.program.now c.args.problem.now c.items-acts.result.now (g.K.Sink.written c.args.listing.now) (g.K.Sink.written c.run_program.new.listing) (g.K.Sink.faults c.args.listing.now) (g.K.Sink.faults c.run_program.new.listing)
+returns-in-Range-clause-comes g c = λ input stores runs from since.
+    let k = run_cut c.args.program.now c.args.problem.now c.items-acts.result.now _ (g.K.Sink.written c.args.listing.now) (g.K.Sink.written c.run_program.new.listing) (g.K.Sink.faults c.args.listing.now) (g.K.Sink.faults c.run_program.new.listing)
+    (g.L.Library.held c.args.library.now) (g.L.Library.held c.run_program.new.library) (g.L.Library.store_faults c.args.library.now) (g.L.Library.store_faults c.run_program.new.library)
     c.in-Range.stage c.in-Range.pivots c.in-Range.passed c.in-Err.fault c.items-acts.ensures c.in-Err.ensures.stops c.in-Range.is in
-    c.tell_range.ensures.comes input c.args.program.now c.args.problem.now k.0 (g.K.Sink.written c.args.listing.now) (g.K.Sink.faults c.args.listing.now) runs k.1 k.2 c.run_program.ensures.later
+    c.tell_range.ensures.comes input c.args.program.now c.args.problem.now k.0 (g.K.Sink.written c.args.listing.now) (g.K.Sink.faults c.args.listing.now) (g.L.Library.held c.run_program.new.library) stores (g.L.Library.store_faults c.run_program.new.library) runs k.1 k.2 c.run_program.ensures.later (k.3 ∙ from)
 
 pub returns-in-Write-clause-comes : goal.returns-in-Write-clause-comes
-returns-in-Write-clause-comes g c = λ input runs.
-    run_write input c.args.program.now c.args.problem.now c.items-acts.result.now (g.K.Sink.written c.args.listing.now) (g.K.Sink.written c.run_program.new.listing) (g.K.Sink.faults c.args.listing.now) (g.K.Sink.faults c.run_program.new.listing)
-    c.in-Err.fault runs c.items-acts.ensures c.in-Err.ensures.stops c.in-Write.is
+returns-in-Write-clause-comes g c = λ input stores runs from since.
+    run_write (call_of input (g.K.Sink.written c.args.listing.now) (g.K.Sink.written c.run_program.new.listing) (g.K.Sink.faults c.args.listing.now) (g.K.Sink.faults c.run_program.new.listing) (g.L.Library.held c.run_program.new.library) stores (g.L.Library.store_faults c.run_program.new.library))
+    c.args.program.now c.args.problem.now runs c.items-acts.result.now (option_copied c.text_of-certout.result) (g.L.Library.held c.args.library.now) (g.L.Library.store_faults c.args.library.now)
+    c.items-acts.ensures (lent_is c.text_of-certout.result _ c.text_of-certout.ensures) from since c.in-Err.fault c.in-Write.is c.in-Err.ensures.stops
 
 pub returns-in-NoMemory-clause-comes : goal.returns-in-NoMemory-clause-comes
-returns-in-NoMemory-clause-comes g c = λ input runs.
-    run_memory input c.args.program.now c.args.problem.now c.items-acts.result.now (g.K.Sink.written c.args.listing.now) (g.K.Sink.written c.run_program.new.listing) (g.K.Sink.faults c.args.listing.now) (g.K.Sink.faults c.run_program.new.listing)
-    c.in-Err.fault runs c.items-acts.ensures c.in-Err.ensures.stops c.in-NoMemory.is
+returns-in-NoMemory-clause-comes g c = λ input stores runs from since.
+    run_memory (call_of input (g.K.Sink.written c.args.listing.now) (g.K.Sink.written c.run_program.new.listing) (g.K.Sink.faults c.args.listing.now) (g.K.Sink.faults c.run_program.new.listing) (g.L.Library.held c.run_program.new.library) stores (g.L.Library.store_faults c.run_program.new.library))
+    c.args.program.now c.args.problem.now runs c.items-acts.result.now (option_copied c.text_of-certout.result) (g.L.Library.held c.args.library.now) (g.L.Library.store_faults c.args.library.now)
+    c.items-acts.ensures (lent_is c.text_of-certout.result _ c.text_of-certout.ensures) from since c.in-Err.fault c.in-NoMemory.is c.in-Err.ensures.stops

@@ -26,3 +26,8 @@ returns-clause-stops g c =
     (λ stop h i saw named e.
     refuses i Run (sets_of c.in_ok-sets.sets) _ c.args.program.now (record { names = _; named = named; held = held-there i Run _ _ _ saw.held c.in_ok-sets.ensures.ok })
     (run-tables (sets_of c.in_ok-sets.sets) _ _ c.in_ok-arcs.ensures.arcs c.in_ok-arcs.ensures.nodes) e stop h)
+
+pub returns-in_err-sets-clause-stops : goal.returns-in_err-sets-clause-stops
+returns-in_err-sets-clause-stops g c =
+    let p = err_from_is_err_and c.from_residual.result c.from_residual.ensures.1 in
+    rw (p.1, p.2) (λ i saw named e. c.in_err-sets.ensures.stops i saw named)
