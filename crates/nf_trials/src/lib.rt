@@ -1,7 +1,8 @@
 //! Trials of the simplex method on random networks.
 //!
 //! After each step every number of the basis is computed again plainly, and the plan at the end is written as a
-//! certificate, read back and checked. Nothing stands on this crate, which has no code but its tests.
+//! certificate, read back and checked. The start of stage two is tried on one problem worked by hand. Nothing stands on
+//! this crate, which has no code but its tests.
 #![tactic(auto)]
 
 #[cfg(test)]
@@ -14,3 +15,5 @@ mod plans;
 mod start;
 #[cfg(test)]
 mod walks;
+#[cfg(test)]
+mod widened;
