@@ -2,7 +2,7 @@
 -- The headline, and every later command on a problem, rests on it.
 use Rattle.std.specs.Prelude.{◌≡◌, ℕ, List, Option, Some, None, Ok, length}
 use Rattle.nf_program.specs.declared.program.Command.{Command}
-use Rattle.nf_program.specs.declared.program.Command.TheVariants.{Run, Check}
+use Rattle.nf_program.specs.declared.program.Command.TheVariants.{Check}
 use Rattle.nf_program.specs.declared.program.Program.{Program}
 use Rattle.nf_program.specs.declared.program.SetName.{SetName}
 use Rattle.nf_program.specs.declared.program.SetName.TheVariants as set

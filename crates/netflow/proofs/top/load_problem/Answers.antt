@@ -1,4 +1,4 @@
-use Rattle.std.proofs.Common.{refl, arith}
+use Rattle.std.proofs.Common.{refl}
 use Rattle.std.proofs.lemmas.Result.{err_from_is_err_and}
 use Rattle.nf_program.specs.declared.program.Command.TheVariants.{Run}
 use Rattle.netflow.specs.Steps.{sets_of}
