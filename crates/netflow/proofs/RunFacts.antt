@@ -1,5 +1,5 @@
 -- How a run ends, of what its statements told.
-use Rattle.std.proofs.Common.{◌≡◌, ◌⊎◌, ◌≤◌, ◌+◌, ◌++◌, ℕ, List, [], Option, None, Some, take, length, inl, inr, sym, subst, arith, length-append, refl}
+use Rattle.std.proofs.Common.{◌≡◌, ◌⊎◌, ◌≤◌, ◌+◌, ◌++◌, ℕ, List, Option, None, Some, take, length, inl, inr, sym, subst, arith, length-append, refl}
 use Rattle.std.proofs.Math.Seq.{take-append-add, take-append_seam}
 use Rattle.std.specs.Borrow.{Bor}
 use Rattle.std.specs.Option.{option_copied}
@@ -14,16 +14,15 @@ use Rattle.nf_prob.specs.declared.cert.Cert.{Cert}
 use Rattle.nf_prob.specs.declared.cert.Cert.TheVariants as cert
 use Rattle.nf_program.specs.declared.program.Program.{Program}
 use Rattle.nf_program.specs.declared.program.Statement.{Statement}
-use Rattle.nf_program.specs.declared.program.Command.TheVariants.{Run, Check}
+use Rattle.nf_program.specs.declared.program.Command.TheVariants.{Run}
 use Rattle.nf_run.specs.declared.event.RunFault.{RunFault}
 use Rattle.nf_run.specs.declared.event.RunFault.TheVariants as fault
 use Rattle.nf_run.specs.declared.line.HaltLine.{HaltLine}
 use Rattle.nf_run.specs.declared.line.HaltLine.TheVariants as line
 use Rattle.nf_run.specs.Endings.{HasProof, IsDue as IsDueAtEnd, Stores}
-use Rattle.nf_run.specs.Runs.{Event, IsCut, IsFront}
-use Rattle.nf_run.specs.Stops.{IsListing, ListsAll, ListsFront, ListsPart, StopsAtStore, StopsWith}
+use Rattle.nf_run.specs.Runs.{Event, IsCut}
+use Rattle.nf_run.specs.Stops.{ListsAll, ListsFront, ListsPart, StopsAtStore, StopsWith}
 use Rattle.nf_run.specs.Verdicts as run
-use Rattle.netflow.specs.declared.status.Status.{Status}
 use Rattle.netflow.specs.declared.status.Status.TheVariants as status
 use Rattle.netflow.specs.Headline.{IsProofOf, IsValid, RunIsExplained, StoresProof}
 use Rattle.netflow.specs.Lines.{step_range_line}

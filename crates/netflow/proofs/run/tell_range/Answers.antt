@@ -1,4 +1,4 @@
-use Rattle.std.proofs.Common.{◌≡◌, ◌∙◌, refl, rules}
+use Rattle.std.proofs.Common.{◌∙◌, refl, rules}
 use Rattle.nf_io.specs.Causes.{Rose}
 use Rattle.netflow.proofs.RunFacts.{call_of, range_failed, range_starved, range_told, range_untold}
 use Rattle.netflow.proofs.run.tell_range.Goals as goal

@@ -1,10 +1,8 @@
 use Rattle.std.proofs.Common.{inl, inr, refl}
-use Rattle.nf_program.specs.declared.program.Command.TheVariants.{Check, Run}
 use Rattle.netflow.specs.declared.refusal.Refusal.TheVariants as refusal
 use Rattle.netflow.proofs.CompleteFacts.{accepts-valid, claim-proved}
 use Rattle.netflow.proofs.RefusedFacts.{refuses-none}
 use Rattle.netflow.proofs.RunFacts.{run-explained, stores-proof}
-use Rattle.netflow.proofs.StopFacts.{refused-comes}
 use Rattle.netflow.proofs.top.netflow.Goals as goal
 
 pub returns-in-Some-Check-clause-accepted : goal.returns-in-Some-Check-clause-accepted
