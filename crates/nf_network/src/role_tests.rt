@@ -8,47 +8,47 @@ use std::test::Fail;
 // ROW, TYPE, RHS, COLUMN and COEF, then the variables and the ID columns; or the fault.
 type RolesCase = [&'static str; 4];
 
-fn cases() -> &'static [(SetKind, RolesCase)] {
+fn dense_roles() -> &'static [RolesCase] {
     &[
-        (
-            SetKind::Dense,
-            [
-                "type t; row r; rhs b; id i;",
-                "i,r,t,b,x",
-                "",
-                "1 2 3 - - ; 4 ; 0 ; ",
-            ],
-        ),
-        (
-            SetKind::Dense,
-            [
-                "var y X _TYPE_;",
-                "x,y,z,_TYPE_",
-                "",
-                "- 3 - - - ; 0 1 ; ; ",
-            ],
-        ),
-        (
-            SetKind::Sparse,
-            [
-                "column c; coef v; id x;",
-                "v,c,_row_,x,_TYPE_",
-                "",
-                "2 4 - 1 0 ; ; 3 ; ",
-            ],
-        ),
-        (
-            SetKind::Arcs,
-            ["id q x;", "_FROM_,_TO_,x", "q", "- - - - - ; ; 2 ; "],
-        ),
+        [
+            "type t; row r; rhs b; id i;",
+            "i,r,t,b,x",
+            "",
+            "1 2 3 - - ; 4 ; 0 ; ",
+        ],
+        [
+            "var y X _TYPE_;",
+            "x,y,z,_TYPE_",
+            "",
+            "- 3 - - - ; 0 1 ; ; ",
+        ],
     ]
+}
+
+fn sparse_roles() -> &'static [RolesCase] {
+    &[[
+        "column c; coef v; id x;",
+        "v,c,_row_,x,_TYPE_",
+        "",
+        "2 4 - 1 0 ; ; 3 ; ",
+    ]]
+}
+
+fn arc_roles() -> &'static [RolesCase] {
+    &[["id q x;", "_FROM_,_TO_,x", "q", "- - - - - ; ; 2 ; "]]
 }
 
 #[test]
 fn tells_roles(rt: HostRuntime) -> Result<(), Fail> {
-    for (set, case) in cases() {
-        let told = told_roles(rt.alloc(), *set, case)?;
-        assert_eq!(rt; told.as_str(), case[3]);
+    for (set, table) in [
+        (SetKind::Dense, dense_roles()),
+        (SetKind::Sparse, sparse_roles()),
+        (SetKind::Arcs, arc_roles()),
+    ] {
+        for case in table {
+            let told = told_roles(rt.alloc(), set, case)?;
+            assert_eq!(rt; told.as_str(), case[3]);
+        }
     }
     Ok(())
 }
