@@ -987,15 +987,14 @@ class Statements:
 
 
 def read_program(text):
-    """The names of ARCDATA, NODEDATA, where it is named, and CERTDATA; the options of PROC; the role statements."""
+    """The names of ARCDATA, NODEDATA and CONDATA, where they are named, and CERTDATA; the options of PROC; the role statements."""
     if len(text) > 1048576:
         refuse(1048576, "TooLong")
     statements = Statements(text)
     given, roles = statements.proc(), statements.behind()
-    if any(option in given for option in ("condata", "sparsecondata", "defcontype")) \
-            or any(role in ("var", "type", "rhs", "row", "column", "coef") for role, _ in roles):
+    if "sparsecondata" in given:
         refuse(0, "Form")
-    names = [given[name][1].lower() if name in given else None for name in ("arcdata", "nodedata", "certdata")]
+    names = [given[name][1].lower() if name in given else None for name in ("arcdata", "nodedata", "condata", "certdata")]
     return names, {name: value.encode("latin-1").strip(b"'\"") for name, (_, value) in given.items()}, roles
 
 
@@ -1014,9 +1013,11 @@ def expected(words, program, files):
             if content is DIRECTORY:
                 raise Answer(5, "READ FAULT")
             data.append(content)
-        tables = [None if content is None else read_table(content, name) for content, name in zip(data, ("ARCDATA", "NODEDATA", "CERTDATA"))]
+        tables = [None if content is None else read_table(content, name) for content, name in zip(data, ("ARCDATA", "NODEDATA", "CONDATA", "CERTDATA"))]
+        # no folder here has a set for CONDATA, so it is absent where it is named
+        assert tables[2] is None
         arcs, supply = read_network(tables, given, statements)
-        verdict, values = read_certificate(tables[2], len(arcs), len(supply))
+        verdict, values = read_certificate(tables[3], len(arcs), len(supply))
         wide = any(max(abs(v.numerator), v.denominator) >= 2 ** 60 for part in values.values() for v in part)
         return 0, "ACCEPTED %s\n" % verify(arcs, supply, verdict, values, -1 if "maximize" in given else 1), wide
     except Answer as answer:

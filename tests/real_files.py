@@ -3,7 +3,7 @@
 
     python3 tests/real_files.py --netflow crates/netflow/out/netflow
 
-Each case runs in a folder of its own. What is expected is typed from docs/FORMATS.md and examples/distribution/README.md.
+Each case runs in a folder of its own. What is expected is typed from docs/FORMATS.md and the READMEs of examples/.
 A refusal must be the whole listing, and nothing may stand on standard error.
 """
 import argparse
@@ -99,11 +99,14 @@ ONE_CHANGE = [
     ("program.txt", "certificate;", "certificate thrunet;", *ACCEPTED),
     ("program.txt", "certificate;", "certificate defcost=1;", *ACCEPTED),
     ("program.txt", "certificate;", "certificate maximize;", 9, "REFUSED REDUCED COST C2"),
-    ("program.txt", "certificate;", "certificate defcontype=ge;", 3, "PROGRAM REFUSED AT 0: Form"),
-    ("program.txt", "certificate;", "certificate condata=cons;", 3, "PROGRAM REFUSED AT 0: Form"),
+    ("program.txt", "certificate;", "certificate defcontype=ge;", *ACCEPTED),
+    ("program.txt", "certificate;", "certificate condata=cons;", 7, "ABSENT cons"),
+    ("program.txt", "certificate;", "certificate condata=nodes;", 4, "DATA REFUSED CONDATA ROW 1 COLUMN _NODE_: Amount"),
+    ("program.txt", "certificate;", "certificate condata=nodes sparsecondata;", 3, "PROGRAM REFUSED AT 0: Form"),
+    ("program.txt", "certificate;", "certificate sparsecondata;", 3, "PROGRAM REFUSED AT 75: MissingOption"),
     ("program.txt", "certificate;\n", "certificate; cost c;\n", 4, "DATA REFUSED ARCDATA: NoColumn c"),
     ("program.txt", "certificate;\n", "certificate; capac _capac_; supdem '_supdem_';\n", *ACCEPTED),
-    ("program.txt", "certificate;\n", "certificate; rhs b;\n", 3, "PROGRAM REFUSED AT 0: Form"),
+    ("program.txt", "certificate;\n", "certificate; rhs b;\n", *ACCEPTED),
     ("program.txt", "certdata=certificate", "certdata=elsewhere", 7, "ABSENT elsewhere"),
     ("program.txt", "arcdata=arcs", "arcdata=nodes", 4, "DATA REFUSED ARCDATA: MissingRole TAILNODE"),
 ]
@@ -195,6 +198,23 @@ def shipped_example(t):
     with Copy() as c:
         t.expect("the example", t.run(c.folder), 0, listing)
     t.expect("the listing of the README", (0, listing, ""), *ACCEPTED)
+
+
+def worked_runs(t):
+    """The examples that are run: their listings, and the certificate that is stored, which is accepted."""
+    for name, stored in (("refinery", None), ("production", "plan.csv")):
+        example = os.path.join(TOP, "examples", name)
+        with tempfile.TemporaryDirectory() as folder:
+            for file in os.listdir(example):
+                if file != stored:
+                    shutil.copy(os.path.join(example, file), folder)
+            with open(os.path.join(example, "listing.txt"), encoding="utf-8") as f:
+                t.expect("the example %s" % name, t.run(folder, ["run"]), 0, f.read())
+            if stored:
+                with open(os.path.join(example, stored), "rb") as want, open(os.path.join(folder, stored), "rb") as got:
+                    t.expect("the certificate of %s" % name, (0, got.read().decode(), ""), 0, want.read().decode())
+                os.replace(os.path.join(folder, "check.txt"), os.path.join(folder, "program.txt"))
+                t.expect("the check of %s" % name, t.run(folder), 0, "ACCEPTED OPTIMAL\nTOTAL COST 5960")
 
 
 def each_number(t):
@@ -329,7 +349,7 @@ def main():
     parser = argparse.ArgumentParser(description="The built program on real files.")
     parser.add_argument("--netflow", required=True, help="the built program")
     t = Runner(parser.parse_args().netflow)
-    for part in (shipped_example, each_number, each_binding_capacity, each_two_supplies, tables, too_many_nodes, all_kinds, passes_the_range, outside):
+    for part in (shipped_example, worked_runs, each_number, each_binding_capacity, each_two_supplies, tables, too_many_nodes, all_kinds, passes_the_range, outside):
         part(t)
     print("%d passed, %d failed" % (t.passed, t.failed))
     return 1 if t.failed else 0

@@ -14,8 +14,8 @@ use Rattle.nf_prob.specs.declared.cert.Cert.TheVariants as cert
 use Rattle.nf_prob.specs.declared.cert.Checked.TheVariants as checked
 use Rattle.nf_prob.specs.declared.cert.Why.{Why}
 use Rattle.nf_prob.specs.Verdict.{IsAnswer}
-use Rattle.nf_network.specs.ProblemOf.{Refusal as ProblemRefusal, OfData, OfRoles, problem_of}
-use Rattle.netflow.proofs.PlainFacts.{arcs_table, nodes_table}
+use Rattle.netflow.specs.ProblemOf.{Refusal as ProblemRefusal, OfData, OfRoles, problem_of}
+use Rattle.netflow.proofs.PlainFacts.{arcs_table, cons_table, nodes_table}
 use Rattle.nf_cert.specs.Reading.{cert_read}
 use Rattle.nf_program.specs.declared.program.SetName.{SetName}
 use Rattle.nf_program.specs.declared.program.SetName.TheVariants as set
@@ -109,7 +109,7 @@ table-short bytes g h = not-longer most_bytes (length bytes) (if-ok (nat_lt most
 has-set : (held : Option Held) (p : SetNames) (sets : Sets) → AreHeld Check held p sets → (s : SetName) → IsHeldOrNone held (name_of p s) (bytes_of sets s)
 has-set held p sets h set.Arcdata = h.arcdata
 has-set held p sets h set.Nodedata = h.nodedata
-has-set held p sets h set.Condata = tt
+has-set held p sets h set.Condata = h.condata
 has-set held p sets h set.Certdata = h.certdata refl
 has-set held p sets h set.Conin = tt
 has-set held p sets h set.Dualin = tt
@@ -129,6 +129,7 @@ one-names : (p q : Program) (m n : SetNames) → p ≡ q → StandsForCheck p m 
 one-names p q m n e h k = λ i. record {
   arcdata = some-same p.proc.arcdata q.proc.arcdata m.arcdata n.arcdata (ap (λ r. r.proc.arcdata) e) h.arcdata k.arcdata i;
   nodedata = (sym h.nodedata ∙ (ap (λ r. r.proc.nodedata) e ∙ k.nodedata)) i;
+  condata = (sym h.condata ∙ (ap (λ r. r.proc.condata) e ∙ k.condata)) i;
   certdata = some-same p.proc.certdata q.proc.certdata m.certdata n.certdata (ap (λ r. r.proc.certdata) e) h.certdata k.certdata i;
 }
 
@@ -153,7 +154,7 @@ name-there i problem certificate k n h s name is =
 has-table : (i : Input) (problem : LinearProgram) (certificate : Cert) (k : Claims i problem certificate) (s : SetName) (b : List ℕ) → bytes_of k.sets s ≡ Some b → (g : Grid) × IsTable b g
 has-table i problem certificate k set.Arcdata b e = let t = arcs_table k.program (data_of k.sets) k.posed.network k.posed.posed in (t.0, subst (λ v. IsTable v t.0) (cc e) t.1)
 has-table i problem certificate k set.Nodedata b e = nodes_table k.program (data_of k.sets) k.posed.network k.posed.posed b e
-has-table i problem certificate k set.Condata b e = cc e
+has-table i problem certificate k set.Condata b e = cons_table k.program (data_of k.sets) k.posed.network k.posed.posed b e
 has-table i problem certificate k set.Certdata b e = (k.claimed.table, subst (λ v. IsTable v k.claimed.table) (cc e) k.claimed.table_is)
 has-table i problem certificate k set.Conin b e = cc e
 has-table i problem certificate k set.Dualin b e = cc e
@@ -183,7 +184,7 @@ certdata-same : (a b : List ℕ) → Some a ≡ Some b → a ≡ b
 certdata-same a b h = cc
 
 data-same : (a b : Sets) → ((s : SetName) → bytes_of a s ≡ bytes_of b s) → data_of a ≡ data_of b
-data-same a b same = λ i. record { arcdata = certdata-same a.arcdata b.arcdata (same set.Arcdata) i; nodedata = same set.Nodedata i; condata = None }
+data-same a b same = λ i. record { arcdata = certdata-same a.arcdata b.arcdata (same set.Arcdata) i; nodedata = same set.Nodedata i; condata = same set.Condata i }
 
 problem-same : (i : Input) (problem : LinearProgram) (certificate : Cert) (k : Claims i problem certificate) (sets : Sets) (q : LinearProgram) → PosesProblem i Check sets q → q ≡ problem
 problem-same i problem certificate k sets q h =

@@ -89,11 +89,11 @@ module _ (c : Call) (program : Program) (problem : LinearProgram) (runs : RunsOn
 -- where one passes, there is a front of the listing, and nothing is stored
 pub run_cut : (program : Program) (problem : LinearProgram) (acts : List Statement) (certout old new : Option (List ℕ)) (before after : ℕ) (held now : Option Held) (stores stores_after stage pivots : ℕ) (passed : Passed) (f : RunFault) → acts ≡ program.acts
     → StopsWith problem program.proc.session acts certout old new before after held now stores stores_after f → f ≡ fault.Range stage pivots passed
-    → (front : List ℕ) × IsCut problem program.proc.session program.acts front pivots passed × Appends old new front × (now ≡ held)
+    → (front : List ℕ) × IsCut problem program.proc.session program.acts front stage pivots passed × Appends old new front × (now ≡ held)
 run_cut program problem acts certout old new before after held now stores stores_after stage pivots passed f same h e =
     let k : StopsWith problem program.proc.session program.acts certout old new before after held now stores stores_after (fault.Range stage pivots passed) =
     subst (λ g. StopsWith problem program.proc.session program.acts certout old new before after held now stores stores_after g) e (subst (λ a. StopsWith problem program.proc.session a certout old new before after held now stores stores_after f) same h) in
-    (k.1, k.2, k.3, k.4)
+    (k.0, k.1, k.2, k.3)
 
 -- ---- an operation passes
 put_after : (old mid new : Option (List ℕ)) (text more : List ℕ) → Appends old mid text → PutPrefix mid new more → PutPrefix old new (text ++ more)
@@ -103,30 +103,30 @@ put_after old mid new text more h k = (
   subst (Appends old new) (sym (take-append-add text more k.0)) (appends-more old mid new text (take k.0 more) h k.2),
 )
 
-module _ (c : Call) (program : Program) (problem : LinearProgram) (front : List ℕ) (pivots : ℕ) (passed : Passed) (mid : Option (List ℕ)) (runs : RunsOn c.input program problem)
-    (cut : IsCut problem program.proc.session program.acts front pivots passed) (listed : Appends c.written mid front) (kept : KeepsLibrary c) where
-  pub range_told : (line : List ℕ) → line ≡ step_range_line pivots passed → Appends mid c.put line → Comes c status.RangePassed
-  range_told line is told = inr (program, problem, runs, front, pivots, passed, cut, appends-more c.written mid c.put front (step_range_line pivots passed) listed (subst (Appends mid c.put) is told), kept)
+module _ (c : Call) (program : Program) (problem : LinearProgram) (front : List ℕ) (stage pivots : ℕ) (passed : Passed) (mid : Option (List ℕ)) (runs : RunsOn c.input program problem)
+    (cut : IsCut problem program.proc.session program.acts front stage pivots passed) (listed : Appends c.written mid front) (kept : KeepsLibrary c) where
+  pub range_told : (line : List ℕ) → line ≡ step_range_line stage pivots passed → Appends mid c.put line → Comes c status.RangePassed
+  range_told line is told = inr (program, problem, runs, front, stage, pivots, passed, cut, appends-more c.written mid c.put front (step_range_line stage pivots passed) listed (subst (Appends mid c.put) is told), kept)
 
-  pub range_failed : (line : List ℕ) (then : ℕ) → line ≡ step_range_line pivots passed → c.sink_faults ≤ then → Rose then c.sink_faults_after → PutPrefix mid c.put line → Comes c status.WriteFault
+  pub range_failed : (line : List ℕ) (then : ℕ) → line ≡ step_range_line stage pivots passed → c.sink_faults ≤ then → Rose then c.sink_faults_after → PutPrefix mid c.put line → Comes c status.WriteFault
   range_failed line then is later rose told = inl (
     later_rose c.sink_faults then c.sink_faults_after later rose,
-    inl (front ++ step_range_line pivots passed, inr (inr (program, problem, runs, inr (front, pivots, passed, cut, refl))), put_after c.written mid c.put front (step_range_line pivots passed) listed (subst (PutPrefix mid c.put) is told), kept),
+    inl (front ++ step_range_line stage pivots passed, inr (inr (program, problem, runs, inr (front, stage, pivots, passed, cut, refl))), put_after c.written mid c.put front (step_range_line stage pivots passed) listed (subst (PutPrefix mid c.put) is told), kept),
   )
 
-  pub range_starved : (line : List ℕ) → line ≡ step_range_line pivots passed → PutPrefix mid c.put line → Comes c status.NoMemory
+  pub range_starved : (line : List ℕ) → line ≡ step_range_line stage pivots passed → PutPrefix mid c.put line → Comes c status.NoMemory
   range_starved line is told =
-      inr (inl (front ++ step_range_line pivots passed, inr (inr (program, problem, runs, inr (front, pivots, passed, cut, refl))), put_after c.written mid c.put front (step_range_line pivots passed) listed (subst (PutPrefix mid c.put) is told), kept))
+      inr (inl (front ++ step_range_line stage pivots passed, inr (inr (program, problem, runs, inr (front, stage, pivots, passed, cut, refl))), put_after c.written mid c.put front (step_range_line stage pivots passed) listed (subst (PutPrefix mid c.put) is told), kept))
 
   -- nothing of the line was written
   pub range_untold : c.put ≡ mid → Comes c status.NoMemory
   range_untold same = inr (inl (
-    front ++ step_range_line pivots passed,
-    inr (inr (program, problem, runs, inr (front, pivots, passed, cut, refl))),
+    front ++ step_range_line stage pivots passed,
+    inr (inr (program, problem, runs, inr (front, stage, pivots, passed, cut, refl))),
     (
       length front,
-      subst (λ n. length front ≤ n) (sym (length-append front (step_range_line pivots passed))) (omega arith),
-      subst (Appends c.written c.put) (sym (take-append_seam front (step_range_line pivots passed))) (subst (λ n. Appends c.written n front) (sym same) listed),
+      subst (λ n. length front ≤ n) (sym (length-append front (step_range_line stage pivots passed))) (omega arith),
+      subst (Appends c.written c.put) (sym (take-append_seam front (step_range_line stage pivots passed))) (subst (λ n. Appends c.written n front) (sym same) listed),
     ),
     kept,
   ))

@@ -1,20 +1,23 @@
 -- What a call saw, from one step to the next, and the status of each refusal.
 use Rattle.std.proofs.Common.{Bool, true, false, if◌then◌else◌, Result, Ok, Err, IfErr, IfOk, IfSome, MatchResult, ◌≡◌, ◌∙◌, ◌≤◌, ◌<◌, ◌⊎◌, ℕ, List, [], Option, None, Some, ap, append-nil, length, inl, inr, arith, refl, subst, subst₂, sym}
+use Rattle.std.specs.Borrow.{Bor}
+use Rattle.std.specs.Option.{option_copied}
 use Rattle.nf_model.specs.Program.{LinearProgram}
 use Rattle.nf_prob.specs.declared.cert.Cert.{Cert}
 use Rattle.nf_cert.specs.Reading.{cert_read}
 use Rattle.nf_prob.specs.Labels.{LabelList}
-use Rattle.nf_network.specs.Network.{Network}
-use Rattle.nf_network.specs.ProblemOf.{Refusal as ProblemRefusal, OfData, OfRoles, OfTable, in_data, in_roles, in_size, most_rows, problem_in, problem_of, then_with, with_nodes}
-use Rattle.nf_roles.specs.declared.columns.SetKind.TheVariants.{Arcs}
+use Rattle.nf_network.specs.Network.{Network, network_due}
+use Rattle.nf_cons.specs.Due.{dense_due}
+use Rattle.netflow.specs.ProblemOf.{Refusal as ProblemRefusal, OfData, OfRoles, OfTable, header_in, in_data, in_roles, in_size, most_rows, problem_in, problem_of, then_with, with_cons, with_nodes}
+use Rattle.nf_roles.specs.declared.columns.SetKind.TheVariants.{Arcs, Dense}
 use Rattle.nf_roles.specs.declared.fault.DataFault.{DataFault}
 use Rattle.nf_roles.specs.declared.fault.DataKind.TheVariants as kind
 use Rattle.nf_roles.specs.declared.fault.RoleFault.{RoleFault}
 use Rattle.nf_roles.specs.declared.fault.RoleFault.TheVariants as fault
-use Rattle.nf_roles.specs.Assigned.{roles_due}
+use Rattle.nf_roles.specs.Assigned.{header_of, roles_due}
 use Rattle.nf_roles.specs.Roles.{RoleColumns}
 use Rattle.nf_program.specs.declared.program.SetName.{SetName}
-use Rattle.nf_program.specs.declared.program.SetName.TheVariants.{Arcdata}
+use Rattle.nf_program.specs.declared.program.SetName.TheVariants.{Arcdata, Condata}
 use Rattle.nf_program.specs.declared.program.Program.{Program}
 use Rattle.nf_program.specs.declared.program.Command.{Command}
 use Rattle.nf_program.specs.declared.program.Command.TheVariants.{Run, Check}
@@ -85,18 +88,19 @@ pub held-there : (i : Input) (c : Command) (held : Option Held) (n : SetNames) (
 held-there i c held n s e h = rw e h
 
 -- the tables of a run, which has none for CERTDATA
-pub run-tables : (s : Sets) (arcs : Grid) (nodes : Option Grid) → IsTable s.arcdata arcs → IsTableOrNone s.nodedata nodes → AreTables Run s (record { arcdata = arcs; nodedata = nodes; certdata = arcs })
-run-tables s arcs nodes h k = record { arcdata = h; nodedata = k; certdata = λ e. cc e }
+pub run-tables : (s : Sets) (arcs : Grid) (nodes cons : Option Grid) → IsTable s.arcdata arcs → IsTableOrNone s.nodedata nodes → IsTableOrNone s.condata cons
+    → AreTables Run s (record { arcdata = arcs; nodedata = nodes; condata = cons; certdata = arcs })
+run-tables s arcs nodes cons h k l = record { arcdata = h; nodedata = k; condata = l; certdata = λ e. cc e }
 
 -- the problem that is posed is that of the program
-pub poses : (c : Command) (s : Sets) (t : Grids) (p q : Program) (problem : LinearProgram) → AreTables c s t → q ≡ p → IsPosed (problem_in p t.arcdata t.nodedata None) problem → IsProblemOf q s problem
+pub poses : (c : Command) (s : Sets) (t : Grids) (p q : Program) (problem : LinearProgram) → AreTables c s t → q ≡ p → IsPosed (problem_in p t.arcdata t.nodedata t.condata) problem → IsProblemOf q s problem
 poses c s t p q problem h e (n, due, is) =
     record { network = n; posed = subst (λ r. problem_of r (data_of s) ≡ Ok n) (sym e) (posed_by_tables c s t p h ∙ due); is = is }
 
 -- and where it is refused, so is the call
 pub refuses : (i : Input) (c : Command) (s : Sets) (t : Grids) (p : Program) (f : FetchesSets i c s) → AreTables c s t → f.named.program ≡ p
-    → (stop : Stop) → IsStopOf (problem_in p t.arcdata t.nodedata None) stop → Stops i stop
-refuses i c s t p f h e (stop.Refused r) (OfTable set fault, due, is) = absurd (no-table p t.arcdata t.nodedata None set fault due)
+    → (stop : Stop) → IsStopOf (problem_in p t.arcdata t.nodedata t.condata) stop → Stops i stop
+refuses i c s t p f h e (stop.Refused r) (OfTable set fault, due, is) = absurd (no-table p t.arcdata t.nodedata t.condata set fault due)
 refuses i c s t p f h e (stop.Refused r) (OfRoles set fault, due, is) =
     subst (Refuses i) (sym is) (c, s, f, t, h, subst (λ q. problem_of q (data_of s) ≡ Err (OfRoles set fault)) (sym e) (posed_by_tables c s t p h ∙ due))
 refuses i c s t p f h e (stop.Refused r) (OfData fault, due, is) =
@@ -173,21 +177,64 @@ next-stop r x next s h k = subst (λ d. IsStopOf d s) (sym (then_step r x next h
 pub next-posed : {A : Type 0} (r : Result A ProblemRefusal) (x : A) (next : A → Result Network ProblemRefusal) (p : LinearProgram) → r ≡ Ok x → IsPosed (next x) p → IsPosed (then_with r next) p
 next-posed r x next p h k = subst (λ d. IsPosed d p) (sym (then_step r x next h)) k
 
+-- the header of CONDATA, where it is lent
+lent-header : (o : Option (Bor Grid)) → header_of o ≡ header_in (option_copied o)
+lent-header None = refl
+lent-header (Some t) = refl
+
 -- the problem of its tables, behind the roles of ARCDATA
-pub problem-posed : (p : Program) (a : Grid) (nodes : Option Grid) (r : RoleColumns) (q : LinearProgram) → in_roles Arcdata (roles_due Arcs a.header [] p.roles) ≡ Ok r
-    → IsPosed (with_nodes p r a nodes) q → IsPosed (problem_in p a nodes None) q
-unfolding problem_in
-problem-posed p a nodes r q h k = next-posed (in_roles Arcdata (roles_due Arcs a.header [] p.roles)) r (λ x. with_nodes p x a nodes) q h k
+module _ (p : Program) (a : Grid) (nodes : Option Grid) (o : Option (Bor Grid)) where
+  abbrev arc-roles : Result RoleColumns ProblemRefusal
+  arc-roles = in_roles Arcdata (roles_due Arcs a.header (header_of o) p.roles)
 
-pub problem-stops : (p : Program) (a : Grid) (nodes : Option Grid) (r : RoleColumns) (s : Stop) → in_roles Arcdata (roles_due Arcs a.header [] p.roles) ≡ Ok r
-    → IsStopOf (with_nodes p r a nodes) s → IsStopOf (problem_in p a nodes None) s
-unfolding problem_in
-problem-stops p a nodes r s h k = next-stop (in_roles Arcdata (roles_due Arcs a.header [] p.roles)) r (λ x. with_nodes p x a nodes) s h k
+  here-then : (P : Result Network ProblemRefusal → Type 0) → P (then_with arc-roles (λ x. with_nodes p x a nodes (option_copied o))) → P (problem_in p a nodes (option_copied o))
+  unfolding problem_in
+  here-then P h = subst (λ c. P (then_with (in_roles Arcdata (roles_due Arcs a.header c p.roles)) (λ x. with_nodes p x a nodes (option_copied o)))) (lent-header o) h
 
-pub problem-stops-first : (p : Program) (a : Grid) (nodes : Option Grid) (s : Stop) → IsStopOf (in_roles Arcdata (roles_due Arcs a.header [] p.roles)) s → IsStopOf (problem_in p a nodes None) s
-unfolding problem_in
-problem-stops-first p a nodes s k = first-stop (in_roles Arcdata (roles_due Arcs a.header [] p.roles)) (λ x. with_nodes p x a nodes) s k
+  pub problem-posed : (cons : Option Grid) (r : RoleColumns) (q : LinearProgram) → option_copied o ≡ cons → arc-roles ≡ Ok r → IsPosed (with_nodes p r a nodes (option_copied o)) q → IsPosed (problem_in p a nodes cons) q
+  problem-posed cons r q e h k = subst (λ c. IsPosed (problem_in p a nodes c) q) e (here-then (λ d. IsPosed d q) (next-posed arc-roles r (λ x. with_nodes p x a nodes (option_copied o)) q h k))
+
+  pub problem-stops : (cons : Option Grid) (r : RoleColumns) (s : Stop) → option_copied o ≡ cons → arc-roles ≡ Ok r → IsStopOf (with_nodes p r a nodes (option_copied o)) s → IsStopOf (problem_in p a nodes cons) s
+  problem-stops cons r s e h k = subst (λ c. IsStopOf (problem_in p a nodes c) s) e (here-then (λ d. IsStopOf d s) (next-stop arc-roles r (λ x. with_nodes p x a nodes (option_copied o)) s h k))
+
+  pub problem-stops-first : (cons : Option Grid) (s : Stop) → option_copied o ≡ cons → IsStopOf arc-roles s → IsStopOf (problem_in p a nodes cons) s
+  problem-stops-first cons s e k = subst (λ c. IsStopOf (problem_in p a nodes c) s) e (here-then (λ d. IsStopOf d s) (first-stop arc-roles (λ x. with_nodes p x a nodes (option_copied o)) s k))
 
 -- the network of its tables, once it is built
 pub sized-stop : (d : Result Network ProblemRefusal) (b : LinearProgram) (s : Stop) → IsPosed d b → ((labels : LabelList) → IsStopOf (in_size (record { program = b; labels = labels })) s) → IsStopOf (then_with d in_size) s
 sized-stop d b s (n, due, is) h = next-stop d n in_size s due (subst (λ q. IsStopOf (in_size (record { program = q; labels = n.labels })) s) is (h n.labels))
+
+pub sized-posed : (d : Result Network ProblemRefusal) (b q : LinearProgram) → IsPosed d b → (q ≡ b) × ((labels : LabelList) → in_size (record { program = b; labels = labels }) ≡ Ok (record { program = b; labels = labels })) → IsPosed (then_with d in_size) q
+sized-posed d b q (n, due, is) (same, fits) =
+    next-posed d n in_size q due
+    (n, subst (λ x. in_size (record { program = x; labels = n.labels }) ≡ Ok (record { program = x; labels = n.labels })) is (fits n.labels), same ∙ is)
+
+-- the network that was built, as a problem that is posed
+pub network-posed : (r : Result Network DataFault) (n : Network) → r ≡ Ok n → IsPosed (in_data r) n.program
+network-posed r n h = (n, ap in_data h, refl)
+
+-- the problem with CONDATA, behind the roles of ARCDATA and NODEDATA
+module _ (p : Program) (ar : RoleColumns) (a : Grid) (nr : RoleColumns) (t cons : Grid) where
+  abbrev cons-roles : Result RoleColumns ProblemRefusal
+  cons-roles = in_roles Condata (roles_due Dense cons.header [] p.roles)
+
+  abbrev network : Result Network DataFault
+  network = network_due p.proc ar a nr t
+
+  abbrev added : RoleColumns → Network → Result Network ProblemRefusal
+  added r n = in_data (dense_due p.proc n r cons)
+
+  abbrev behind : RoleColumns → Result Network ProblemRefusal
+  behind r = then_with (in_data network) (λ n. then_with (added r n) in_size)
+
+  pub cons-stops-first : (s : Stop) → IsStopOf cons-roles s → IsStopOf (with_cons p ar a nr t (Some cons)) s
+  cons-stops-first s h = first-stop cons-roles behind s h
+
+  pub cons-stops-network : (r : RoleColumns) (s : Stop) → cons-roles ≡ Ok r → IsStopOf (in_data network) s → IsStopOf (with_cons p ar a nr t (Some cons)) s
+  cons-stops-network r s h k = next-stop cons-roles r behind s h (first-stop (in_data network) (λ n. then_with (added r n) in_size) s k)
+
+  pub cons-stops : (r : RoleColumns) (n : Network) (s : Stop) → cons-roles ≡ Ok r → network ≡ Ok n → IsStopOf (then_with (added r n) in_size) s → IsStopOf (with_cons p ar a nr t (Some cons)) s
+  cons-stops r n s h k l = next-stop cons-roles r behind s h (next-stop (in_data network) n (λ m. then_with (added r m) in_size) s (ap in_data k) l)
+
+  pub cons-posed : (r : RoleColumns) (n : Network) (q : LinearProgram) → cons-roles ≡ Ok r → network ≡ Ok n → IsPosed (then_with (added r n) in_size) q → IsPosed (with_cons p ar a nr t (Some cons)) q
+  cons-posed r n q h k l = next-posed cons-roles r behind q h (next-posed (in_data network) n (λ m. then_with (added r m) in_size) q (ap in_data k) l)

@@ -11,31 +11,34 @@ use Rattle.nf_table.specs.Reading.{table_read}
 use Rattle.nf_model.specs.Program.{LinearProgram}
 use Rattle.nf_prob.specs.declared.cert.Cert.{Cert}
 use Rattle.nf_network.specs.Network.{Network}
-use Rattle.nf_network.specs.ProblemOf.{Sets as ProblemSets, problem_of}
 use Rattle.nf_cert.specs.Reading.{cert_read}
+use Rattle.netflow.specs.ProblemOf.{Sets as ProblemSets, problem_of}
 
--- The bytes of the data sets of a program. NODEDATA may be left out.
+-- The bytes of the data sets of a program. NODEDATA and CONDATA may be left out.
 pub record Sets : Type 0 where
   pub arcdata : List ℕ
   pub nodedata : Option (List ℕ)
+  pub condata : Option (List ℕ)
   pub certdata : List ℕ
 
 -- The tables of the data sets of a program.
 pub record Grids : Type 0 where
   pub arcdata : Grid
   pub nodedata : Option Grid
+  pub condata : Option Grid
   pub certdata : Grid
 
 -- The bytes of one of the sets, where it is there.
 abbrev pub bytes_of : Sets → SetName → Option (List ℕ)
 bytes_of s set.Arcdata = Some s.arcdata
 bytes_of s set.Nodedata = s.nodedata
+bytes_of s set.Condata = s.condata
 bytes_of s set.Certdata = Some s.certdata
 bytes_of s _ = None
 
 -- Those of which the problem is.
 abbrev pub data_of : Sets → ProblemSets
-data_of s = record { arcdata = s.arcdata; nodedata = s.nodedata; condata = None }
+data_of s = record { arcdata = s.arcdata; nodedata = s.nodedata; condata = s.condata }
 
 -- These bytes are this table.
 abbrev pub IsTable : List ℕ → Grid → Type 0
@@ -52,6 +55,7 @@ IsTableOrNone (Some bytes) (Some table) = IsTable bytes table
 abbrev pub Fetches : Command → SetName → Type 0
 Fetches c set.Arcdata = Unit {0}
 Fetches c set.Nodedata = Unit {0}
+Fetches c set.Condata = Unit {0}
 Fetches c set.Certdata = c ≡ Check
 Fetches c _ = ⊥
 
@@ -59,12 +63,15 @@ Fetches c _ = ⊥
 pub record AreTables (c : Command) (s : Sets) (t : Grids) : Type 0 where
   pub arcdata : IsTable s.arcdata t.arcdata
   pub nodedata : IsTableOrNone s.nodedata t.nodedata
+  pub condata : IsTableOrNone s.condata t.condata
   pub certdata : c ≡ Check → IsTable s.certdata t.certdata
 
 -- The sets before this one are tables.
 abbrev pub AreTablesBefore : Sets → SetName → Type 0
 AreTablesBefore s set.Nodedata = (arcs : Grid) × IsTable s.arcdata arcs
-AreTablesBefore s set.Certdata = (arcs : Grid) × (nodes : Option Grid) × IsTable s.arcdata arcs × IsTableOrNone s.nodedata nodes
+AreTablesBefore s set.Condata = (arcs : Grid) × (nodes : Option Grid) × IsTable s.arcdata arcs × IsTableOrNone s.nodedata nodes
+AreTablesBefore s set.Certdata =
+    (arcs : Grid) × (nodes cons : Option Grid) × IsTable s.arcdata arcs × IsTableOrNone s.nodedata nodes × IsTableOrNone s.condata cons
 AreTablesBefore s _ = Unit {0}
 
 -- The data sets of a program stand for this problem.

@@ -1,6 +1,7 @@
 pub mod Status
 pub mod Words
 pub mod Standing
+pub mod ProblemOf
 pub mod Data
 pub mod Lines
 pub mod Outcome

@@ -142,9 +142,9 @@ operation_text p = frac_text p.left ++ (codes " " ++ (op_text p.op ++ (codes " "
 abbrev pub range_line : Passed → List ℕ
 range_line p = codes "RANGE PASSED CHECK: " ++ (operation_text p ++ codes "\n")
 
--- One of a run that passes 128 bits, in stage one behind so many pivots.
-abbrev pub step_range_line : ℕ → Passed → List ℕ
-step_range_line pivots p = codes "RANGE PASSED STAGE 1 ITERATION " ++ (decimal pivots ++ (codes ": " ++ (operation_text p ++ codes "\n")))
+-- One of a run that passes 128 bits, in the stage with this number behind so many pivots of it.
+abbrev pub step_range_line : ℕ → ℕ → Passed → List ℕ
+step_range_line stage pivots p = codes "RANGE PASSED STAGE " ++ (decimal stage ++ (codes " ITERATION " ++ (decimal pivots ++ (codes ": " ++ (operation_text p ++ codes "\n")))))
 
 -- The line of each refusal, which is the last line of a listing.
 abbrev pub refusal_line : Refusal → List ℕ

@@ -24,7 +24,6 @@ use Rattle.nf_sums.specs.Terms.{PassesIn}
 use Rattle.nf_prob.specs.Verdict.{IsAnswer}
 use Rattle.nf_roles.specs.declared.fault.RoleFault.{RoleFault}
 use Rattle.nf_roles.specs.declared.fault.DataFault.{DataFault}
-use Rattle.nf_network.specs.ProblemOf.{OfRoles, OfData, problem_of}
 use Rattle.nf_cert.specs.Reading.{cert_read}
 use Rattle.nf_cert.specs.declared.fault.CertFault.{CertFault}
 use Rattle.netflow.specs.declared.refusal.Refusal.{Refusal}
@@ -39,6 +38,7 @@ use Rattle.nf_run.specs.Stops.{ListsAll, ListsPart, StopsAtStore}
 use Rattle.nf_program.specs.declared.program.SessionOptions.{SessionOptions}
 use Rattle.nf_program.specs.declared.program.Statement.{Statement}
 use Rattle.netflow.specs.Data.{Fetches, Grids, Sets, AreTables, AreTablesBefore, IsCertificateOf, IsProblemOf, IsTable, bytes_of, data_of}
+use Rattle.netflow.specs.ProblemOf.{OfRoles, OfData, problem_of}
 use Rattle.netflow.specs.Lines.{accepted_lines, claim_line, in_own_words, refusal_line, step_range_line}
 use Rattle.netflow.specs.Standing.{IsStanding, SetNames, StandsFor, StandsForRun, most_program}
 use Rattle.netflow.specs.Words.{IsCommand}
@@ -87,6 +87,7 @@ pub record NamesSets (i : Input) (c : Command) (n : SetNames) : Type 0 where
 abbrev pub name_of : SetNames → SetName → Option (List ℕ)
 name_of n set.Arcdata = Some n.arcdata
 name_of n set.Nodedata = n.nodedata
+name_of n set.Condata = n.condata
 name_of n set.Certdata = Some n.certdata
 name_of n _ = None
 
@@ -101,12 +102,15 @@ IsHeldOrNone held (Some name) (Some bytes) = HasName held name bytes
 pub record AreHeld (c : Command) (held : Option Held) (n : SetNames) (s : Sets) : Type 0 where
   pub arcdata : HasName held n.arcdata s.arcdata
   pub nodedata : IsHeldOrNone held n.nodedata s.nodedata
+  pub condata : IsHeldOrNone held n.condata s.condata
   pub certdata : c ≡ Check → HasName held n.certdata s.certdata
 
 -- The library holds the sets before this one.
 abbrev pub AreHeldBefore : Option Held → SetNames → SetName → Type 0
 AreHeldBefore held n set.Nodedata = (arcs : List ℕ) × HasName held n.arcdata arcs
-AreHeldBefore held n set.Certdata = (arcs : List ℕ) × (nodes : Option (List ℕ)) × HasName held n.arcdata arcs × IsHeldOrNone held n.nodedata nodes
+AreHeldBefore held n set.Condata = (arcs : List ℕ) × (nodes : Option (List ℕ)) × HasName held n.arcdata arcs × IsHeldOrNone held n.nodedata nodes
+AreHeldBefore held n set.Certdata =
+    (arcs : List ℕ) × (nodes cons : Option (List ℕ)) × HasName held n.arcdata arcs × IsHeldOrNone held n.nodedata nodes × IsHeldOrNone held n.condata cons
 AreHeldBefore held n _ = Unit {0}
 
 -- The program was read, and these are the bytes of its data sets.
@@ -161,7 +165,7 @@ Refuses i (refusal.Absent name) = (c : Command) × (n : SetNames) × (s : SetNam
 Refuses i (refusal.TooLong s) = (c : Command) × (n : SetNames) × (name : List ℕ) × Fetches c s × NamesSets i c n × AreHeldBefore i.held n s × (Some name ≡ name_of n s) × HasTooMany i.held name
 -- this is the first fault of the first data set that is no table
 Refuses i (refusal.NoTable s fault) = (c : Command) × (sets : Sets) × (bytes : List ℕ) × Fetches c s × FetchesSets i c sets × AreTablesBefore sets s × (Some bytes ≡ bytes_of sets s) × (table_read bytes ≡ Err fault)
--- all are tables, and this is the first fault of the columns of ARCDATA and NODEDATA
+-- all are tables, and this is the first fault of the columns of ARCDATA, NODEDATA and CONDATA
 Refuses i (refusal.NoRoles s fault) = (c : Command) × (sets : Sets) × (fetches : FetchesSets i c sets) × (t : Grids) × AreTables c sets t × (problem_of fetches.named.program (data_of sets) ≡ Err (OfRoles s fault))
 -- the columns have their roles, and this is the first fault of the data, or of the size of the problem
 Refuses i (refusal.NoNetwork fault) = (c : Command) × (sets : Sets) × (fetches : FetchesSets i c sets) × (t : Grids) × AreTables c sets t × (problem_of fetches.named.program (data_of sets) ≡ Err (OfData fault))
@@ -178,7 +182,7 @@ abbrev pub IsOfRun : Input → List ℕ → Type 0
 IsOfRun i text =
     (program : Program) × (problem : LinearProgram) × RunsOn i program problem
     × (IsFront problem program.proc.session program.acts text
-    ⊎ ((front : List ℕ) × (pivots : ℕ) × (passed : Passed) × IsCut problem program.proc.session program.acts front pivots passed × (text ≡ front ++ step_range_line pivots passed)))
+    ⊎ ((front : List ℕ) × (stage pivots : ℕ) × (passed : Passed) × IsCut problem program.proc.session program.acts front stage pivots passed × (text ≡ front ++ step_range_line stage pivots passed)))
 
 -- The text that is due.
 abbrev pub IsDue : Input → List ℕ → Type 0
@@ -218,8 +222,8 @@ Comes c status.Absent = (name : List ℕ) × Refused c (refusal.Absent name)
 -- an operation of the check passes 128 bits, or one of the run, behind the listing of the statements before
 Comes c status.RangePassed =
     ((passed : Passed) × Refused c (refusal.Range passed))
-    ⊎ ((program : Program) × (problem : LinearProgram) × RunsOn c.input program problem × (front : List ℕ) × (pivots : ℕ) × (passed : Passed)
-    × IsCut problem program.proc.session program.acts front pivots passed × Lists c (front ++ step_range_line pivots passed) × KeepsLibrary c)
+    ⊎ ((program : Program) × (problem : LinearProgram) × RunsOn c.input program problem × (front : List ℕ) × (stage pivots : ℕ) × (passed : Passed)
+    × IsCut problem program.proc.session program.acts front stage pivots passed × Lists c (front ++ step_range_line stage pivots passed) × KeepsLibrary c)
 Comes c status.CheckRefused = ((fault : CertFault) × Refused c (refusal.NoCertificate fault)) ⊎ ((why : Why) × Refused c (refusal.NotValid why))
 -- the listing failed, in the text that is due or behind the store at the end of a run; or that store failed
 Comes c status.WriteFault = (Rose c.sink_faults c.sink_faults_after × (WritesPart c ⊎ EndsRun c ListsPart)) ⊎ (Rose c.store_faults c.store_faults_after × EndsRun c StopsAtStore)

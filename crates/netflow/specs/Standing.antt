@@ -1,57 +1,28 @@
 -- The standing part of the language: which programs of the grammar a command takes today. What a program names, and so
 -- what is fetched, rests on it.
 use Rattle.std.specs.Prelude.{◌≡◌, ◌==◌, ℕ, Bool, true, false, ◌||◌, not, List, [], Option, Some, is_some}
-use Rattle.std.specs.List.{list_any}
 use Rattle.nf_program.specs.declared.program.Command.{Command}
 use Rattle.nf_program.specs.declared.program.Command.TheVariants.{Run, Check}
 use Rattle.nf_program.specs.declared.program.ProcOptions.{ProcOptions}
 use Rattle.nf_program.specs.declared.program.Program.{Program}
-use Rattle.nf_program.specs.declared.program.PriceType.{PriceType}
-use Rattle.nf_program.specs.declared.program.PriceType.TheVariants.{First, Best, Bland}
-use Rattle.nf_program.specs.declared.program.Role.{Role}
-use Rattle.nf_program.specs.declared.program.Role.TheVariants as role
 use Rattle.nf_program.specs.declared.program.SessionOptions.{SessionOptions}
 use Rattle.nf_run.specs.Stops.{are_standing}
 
--- The names of the data sets of a program. NODEDATA= may be left out, and `run` has none for CERTDATA=.
+-- The names of the data sets of a program. NODEDATA= and CONDATA= may be left out, and `run` has none for CERTDATA=.
 pub record SetNames : Type 0 where
   pub arcdata : List ℕ
   pub nodedata : Option (List ℕ)
+  pub condata : Option (List ℕ)
   pub certdata : List ℕ
 
--- A role of CONDATA alone.
-abbrev pub is_of_constraints : Role → Bool
-is_of_constraints role.Var = true
-is_of_constraints role.ConKind = true
-is_of_constraints role.Rhs = true
-is_of_constraints role.Row = true
-is_of_constraints role.Column = true
-is_of_constraints role.Coef = true
-is_of_constraints _ = false
-
--- One of these role statements is of CONDATA alone.
-abbrev pub have_constraints : List (Role × List (List ℕ)) → Bool
-have_constraints statements = list_any (λ s. is_of_constraints s.0) statements
-
--- A program speaks of side constraints: by an option of PROC, or by a role statement.
-abbrev pub says_constraints : Program → Bool
-says_constraints p =
-    is_some p.proc.condata || p.proc.sparsecondata || is_some p.proc.defcontype || have_constraints p.roles
-
--- `check` takes a program whose PROC names ARCDATA= and CERTDATA= and that does not speak of side constraints. WARM,
--- CONIN=, DUALIN=, SESSIONDATA=, output options and session options may stand there: they are not looked at. Of acts it
--- has a QUIT or none, by the grammar.
+-- `check` takes a program whose PROC names ARCDATA= and CERTDATA= and has no SPARSECONDATA. WARM, CONIN=, DUALIN=, SESSIONDATA=, output options and
+-- session options may stand there: they are not looked at. Of acts it has a QUIT or none, by the grammar.
 pub record StandsForCheck (p : Program) (n : SetNames) : Type 0 where
   pub arcdata : p.proc.arcdata ≡ Some n.arcdata
   pub nodedata : p.proc.nodedata ≡ n.nodedata
+  pub condata : p.proc.condata ≡ n.condata
   pub certdata : p.proc.certdata ≡ Some n.certdata
-  pub network : says_constraints p ≡ false
-
--- The rule FIRST.
-abbrev pub is_first : PriceType → Bool
-is_first First = true
-is_first Best = false
-is_first Bland = false
+  pub dense : p.proc.sparsecondata ≡ false
 
 -- PROC asks for saved tables, or for outputs other than CERTOUT=.
 abbrev pub asks_tables : ProcOptions → Bool
@@ -59,20 +30,20 @@ asks_tables p =
     p.warm || is_some p.conin || is_some p.dualin || is_some p.sessiondata
     || is_some p.arcout || is_some p.nodeout || is_some p.conout || is_some p.dualout || is_some p.sessionout
 
--- A session option other than MAXIT1= and PRICETYPE1= has not its default.
+-- A session option other than limits and rules has not its default.
 abbrev pub asks_more : SessionOptions → Bool
 asks_more o =
-    not (o.maxit2 == 1000000) || not (o.pause1 == 0) || not (o.pause2 == 0)
-    || o.feasiblepause1 || o.feasiblepause2 || o.endpause1 || o.future1 || o.future2 || not (is_first o.pricetype2)
+    not (o.pause1 == 0) || not (o.pause2 == 0) || o.feasiblepause1 || o.feasiblepause2 || o.endpause1 || o.future1 || o.future2
 
--- `run` takes a program whose PROC names ARCDATA=, has of outputs CERTOUT= alone and of session options MAXIT1= and
--- PRICETYPE1= alone, that does not speak of side constraints, and has of acts RUN and QUIT alone. CERTDATA= may stand
--- there: it is not looked at.
+-- `run` takes a program whose PROC names ARCDATA=, has no SPARSECONDATA, has of outputs CERTOUT= alone and of session options MAXIT1=, MAXIT2=,
+-- PRICETYPE1= and PRICETYPE2= alone, and which has of acts RUN and QUIT alone. CERTDATA= may stand there: it is not looked
+-- at.
 pub record StandsForRun (p : Program) (n : SetNames) : Type 0 where
   pub arcdata : p.proc.arcdata ≡ Some n.arcdata
   pub nodedata : p.proc.nodedata ≡ n.nodedata
+  pub condata : p.proc.condata ≡ n.condata
   pub certdata : n.certdata ≡ []
-  pub network : says_constraints p ≡ false
+  pub dense : p.proc.sparsecondata ≡ false
   pub tables : asks_tables p.proc ≡ false
   pub session : asks_more p.proc.session ≡ false
   pub acts : are_standing p.acts ≡ true

@@ -8,7 +8,7 @@ use Rattle.nf_program.specs.declared.program.StmtFault.{StmtFault}
 use Rattle.nf_reader.specs.Gives.{is_memory}
 use Rattle.nf_model.specs.Program.{LinearProgram}
 use Rattle.nf_network.specs.Network.{Network}
-use Rattle.nf_network.specs.ProblemOf.{Refusal as ProblemRefusal, OfTable, OfRoles, OfData, size_fault}
+use Rattle.netflow.specs.ProblemOf.{Refusal as ProblemRefusal, OfTable, OfRoles, OfData, size_fault}
 use Rattle.nf_roles.specs.declared.fault.DataFault.{DataFault}
 use Rattle.nf_roles.specs.declared.fault.RoleFault.{RoleFault}
 use Rattle.nf_roles.specs.declared.fault.RoleFault.TheVariants as roles
@@ -37,13 +37,13 @@ bytes_in (Some bytes) = Some bytes.items
 
 -- The names of the code, the bytes that it holds, and its tables.
 abbrev pub names_of : NamesOfCode → SetNames
-names_of n = record { arcdata = n.arcdata.now; nodedata = lent_name n.nodedata; certdata = n.certdata.now }
+names_of n = record { arcdata = n.arcdata.now; nodedata = lent_name n.nodedata; condata = lent_name n.condata; certdata = n.certdata.now }
 
 abbrev pub sets_of : SetsOfCode → Sets
-sets_of s = record { arcdata = s.arcdata.items; nodedata = bytes_in s.nodedata; certdata = s.certdata.items }
+sets_of s = record { arcdata = s.arcdata.items; nodedata = bytes_in s.nodedata; condata = bytes_in s.condata; certdata = s.certdata.items }
 
 abbrev pub grids_of : Tables → Grids
-grids_of t = record { arcdata = t.arcdata; nodedata = t.nodedata; certdata = t.certdata }
+grids_of t = record { arcdata = t.arcdata; nodedata = t.nodedata; condata = t.condata; certdata = t.certdata }
 
 -- A call stops: it is refused with its cause, or wants memory.
 abbrev pub Stops : Input → Stop → Type 0

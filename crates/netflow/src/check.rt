@@ -106,7 +106,7 @@ fn in_own_words(problem: &Problem, why: Why) -> Why
 
 /// What the certificate that the tables claim proves, where it is accepted. Each table is let go once it is read.
 ///
-/// It stops as `pose` does where ARCDATA and NODEDATA are no problem, then with `NoCertificate` where CERTDATA is no
+/// It stops as `pose` does where ARCDATA, NODEDATA and CONDATA are no problem, then with `NoCertificate` where CERTDATA is no
 /// certificate of it, then with `NotValid` at the first place where that is not valid, or with `Range` where a number of
 /// the check passes 128 bits. The steps of the check are counted, and the count is let go.
 pub(crate) fn judge(alloc: Global, program: &Program, tables: Tables) -> Result<HaltLine, Stop>
@@ -119,9 +119,10 @@ pub(crate) fn judge(alloc: Global, program: &Program, tables: Tables) -> Result<
     let Tables {
         arcdata,
         nodedata,
+        condata,
         certdata,
     } = tables;
-    let problem = pose(alloc, program, arcdata, nodedata)?;
+    let problem = pose(alloc, program, arcdata, nodedata, condata)?;
     let certificate = claim(alloc, certdata, &problem)?;
     let number = verdict(&problem, &certificate)?;
     Ok(claim_line(&problem, &certificate, number))

@@ -217,13 +217,18 @@ pub(crate) fn range(alloc: Global, passed: &Passed) -> Result<Text, AllocError>
     )
 }
 
-/// An operation of a run passes 128 bits, in stage one behind so many pivots.
-pub(crate) fn step_range(alloc: Global, pivots: u64, passed: &Passed) -> Result<Text, AllocError>
-    ensures { IfOk result (λ t. t ≡ step_range_line pivots passed.now) }
+/// An operation of a run passes 128 bits, in the stage with this number, behind so many pivots of it.
+pub(crate) fn step_range(
+    alloc: Global,
+    stage: u8,
+    pivots: u64,
+    passed: &Passed,
+) -> Result<Text, AllocError>
+    ensures { IfOk result (λ t. t ≡ step_range_line stage pivots passed.now) }
 {
     let operation = Operation(*passed);
     plain(
         alloc,
-        format!(in alloc; "RANGE PASSED STAGE 1 ITERATION {pivots}: {operation}\n")?.as_str(),
+        format!(in alloc; "RANGE PASSED STAGE {stage} ITERATION {pivots}: {operation}\n")?.as_str(),
     )
 }

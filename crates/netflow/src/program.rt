@@ -4,7 +4,7 @@ ghost use Rattle.std.specs.Io.KnownBytes.{Consumes, IsAtEnd};
 ghost use Rattle.nf_program.specs.declared.program.Command.TheVariants.{Check, Run};
 ghost use Rattle.nf_program.specs.Grammar.{HasProgram};
 ghost use Rattle.netflow.specs.Outcome.{Input};
-ghost use Rattle.netflow.specs.Standing.{SetNames as Named, StandsForCheck, StandsForRun, asks_more, asks_tables, have_constraints, is_first, is_of_constraints, says_constraints};
+ghost use Rattle.netflow.specs.Standing.{SetNames as Named, StandsForCheck, StandsForRun, asks_more, asks_tables};
 ghost use Rattle.std.specs.Str.{IsUtf8};
 ghost use Rattle.netflow.specs.Steps.{Stops, lent_name, names_of, stop_of};
 ghost use Rattle.netflow.specs.Words.{IsCommand};
@@ -12,17 +12,17 @@ ghost use Rattle.netflow.specs.Words.{IsCommand};
 use crate::refusal::{Refusal, Stop};
 use nf_run::are_standing;
 use nf_stmt::{
-    Command, Name, NameList, PriceType, ProcOptions, Program, Role, SessionOptions, StmtFault,
-    StmtKind, read_program,
+    Command, Name, ProcOptions, Program, SessionOptions, StmtFault, StmtKind, read_program,
 };
 use std::alloc::Global;
 use std::str;
 
-/// The names of the data sets of a program of `check`.
+/// The names of the data sets of a program, as it says them.
 #[derive(Clone, Copy)]
 pub(crate) struct SetNames<'a> {
     pub(crate) arcdata: &'a str,
     pub(crate) nodedata: Option<&'a str>,
+    pub(crate) condata: Option<&'a str>,
     pub(crate) certdata: &'a str,
 }
 
@@ -47,36 +47,6 @@ pub(crate) fn program_of(alloc: Global, text: &[u8], command: Command) -> Result
     }
 }
 
-// Whether PROC or a role statement speaks of side constraints.
-fn says_constraints(program: &Program) -> bool
-    ensures { result ≡ says_constraints program.now }
-{
-    let p = &program.proc;
-    p.condata.is_some()
-        || p.sparsecondata
-        || p.defcontype.is_some()
-        || have_constraints(program.roles.items())
-}
-
-// Whether one of these role statements is of CONDATA alone.
-fn have_constraints(statements: &[(Role, NameList)]) -> bool
-    ensures { result ≡ have_constraints statements.now }
-{
-    statements
-        .iter()
-        .any(|statement| is_of_constraints(statement.0))
-}
-
-// Whether a role is one of CONDATA alone.
-fn is_of_constraints(role: Role) -> bool
-    ensures { result ≡ is_of_constraints role }
-{
-    matches!(
-        role,
-        Role::Var | Role::ConKind | Role::Rhs | Role::Row | Role::Column | Role::Coef
-    )
-}
-
 /// The name of a data set as text, where it is there.
 pub(crate) fn text_of(name: &Option<Name>) -> Option<&str>
     requires text { IfSome name.now IsUtf8 }
@@ -96,10 +66,10 @@ pub(crate) fn names_for_check(program: &Program) -> Option<SetNames<'_>>
     requires read { (text : List ℕ) × HasProgram Check text program.now }
     ensures { MatchOption result ((n : Named) → StandsForCheck program.now n → ⊥) (λ n. StandsForCheck program.now (names_of n)) }
 {
-    if says_constraints(program) {
+    let p = &program.proc;
+    if p.sparsecondata {
         return None;
     }
-    let p = &program.proc;
     let (arcdata, certdata) = (text_of(&p.arcdata), text_of(&p.certdata));
     let (Some(arcdata), Some(certdata)) = (arcdata, certdata) else {
         return None;
@@ -107,6 +77,7 @@ pub(crate) fn names_for_check(program: &Program) -> Option<SetNames<'_>>
     Some(SetNames {
         arcdata,
         nodedata: text_of(&p.nodedata),
+        condata: text_of(&p.condata),
         certdata,
     })
 }
@@ -126,26 +97,17 @@ fn asks_tables(p: &ProcOptions) -> bool
         || p.sessionout.is_some()
 }
 
-// Whether a session option other than MAXIT1= and PRICETYPE1= has not its default.
+// Whether a session option other than limits and rules has not its default.
 fn asks_more(o: &SessionOptions) -> bool
     ensures { result ≡ asks_more o.now }
 {
-    o.maxit2 != 1_000_000
-        || o.pause1 != 0
+    o.pause1 != 0
         || o.pause2 != 0
         || o.feasiblepause1
         || o.feasiblepause2
         || o.endpause1
         || o.future1
         || o.future2
-        || !is_first(o.pricetype2)
-}
-
-// Whether a rule is FIRST.
-fn is_first(rule: PriceType) -> bool
-    ensures { result ≡ is_first rule }
-{
-    matches!(rule, PriceType::First)
 }
 
 /// The names of the data sets of a program of `run`, without one for CERTDATA=, or None where `run` does not take the
@@ -155,7 +117,7 @@ pub(crate) fn names_for_run(program: &Program) -> Option<SetNames<'_>>
     ensures { MatchOption result ((n : Named) → StandsForRun program.now n → ⊥) (λ n. StandsForRun program.now (names_of n)) }
 {
     let p = &program.proc;
-    if says_constraints(program) || asks_tables(p) || asks_more(&p.session) {
+    if p.sparsecondata || asks_tables(p) || asks_more(&p.session) {
         return None;
     }
     if !are_standing(program.acts.items()) {
@@ -167,6 +129,7 @@ pub(crate) fn names_for_run(program: &Program) -> Option<SetNames<'_>>
     Some(SetNames {
         arcdata,
         nodedata: text_of(&p.nodedata),
+        condata: text_of(&p.condata),
         certdata: "",
     })
 }

@@ -21,7 +21,13 @@ use nf_stmt::Program;
 use std::alloc::Global;
 
 // Tells an operation of a run that passes 128 bits, behind the lines of the statements before it.
-fn tell_range<K: Sink>(alloc: Global, pivots: u64, passed: Passed, listing: &mut K) -> Status
+fn tell_range<K: Sink>(
+    alloc: Global,
+    stage: u8,
+    pivots: u64,
+    passed: Passed,
+    listing: &mut K,
+) -> Status
     ensures calm { K.quiet listing.old ≡ true → K.faults listing.new ≡ K.faults listing.old }
     ensures comes { (input : Input) (program : ProgramRead) (problem : LinearProgram) (front : List ℕ) (written : Option (List ℕ)) (faults : ℕ) (held : Option Held) (stores stores_after : ℕ) →
         let call : Call = record {
@@ -34,10 +40,10 @@ fn tell_range<K: Sink>(alloc: Global, pivots: u64, passed: Passed, listing: &mut
           store_faults = stores;
           store_faults_after = stores_after;
         } in
-        RunsOn input program problem → IsCut problem program.proc.session program.acts front pivots passed
+        RunsOn input program problem → IsCut problem program.proc.session program.acts front stage pivots passed
         → Appends written (K.written listing.old) front → faults ≤ K.faults listing.old → held ≡ input.held → Comes call result }
 {
-    let Ok(line) = lines::step_range(alloc, pivots, &passed) else {
+    let Ok(line) = lines::step_range(alloc, stage, pivots, &passed) else {
         return Status::NoMemory;
     };
     match write_all(listing, line.bytes()) {
@@ -84,7 +90,11 @@ pub(crate) fn run<K: Sink, L: Library>(
         Err(fault) => fault,
     };
     match fault {
-        RunFault::Range { pivots, passed, .. } => tell_range(alloc, pivots, passed, listing),
+        RunFault::Range {
+            stage,
+            pivots,
+            passed,
+        } => tell_range(alloc, stage, pivots, passed, listing),
         RunFault::Write => Status::WriteFault,
         RunFault::NoMemory => Status::NoMemory,
     }

@@ -19,6 +19,7 @@ use std::alloc::{AllocError, Global};
 pub(crate) struct Sets {
     arcdata: Vec<u8>,
     nodedata: Option<Vec<u8>>,
+    condata: Option<Vec<u8>>,
     certdata: Vec<u8>,
 }
 
@@ -27,6 +28,7 @@ pub(crate) struct Sets {
 pub(crate) struct Tables {
     pub(crate) arcdata: Table,
     pub(crate) nodedata: Option<Table>,
+    pub(crate) condata: Option<Table>,
     pub(crate) certdata: Table,
 }
 
@@ -70,9 +72,10 @@ fn fetch_set<L: Library>(
     }
 }
 
-// The bytes of NODEDATA, where the program names it.
-fn fetch_nodedata<L: Library>(
+// The bytes of a data set, where the program names it.
+fn fetch_if_named<L: Library>(
     alloc: Global,
+    set: SetName,
     name: Option<&str>,
     library: &mut L,
 ) -> Result<Option<Vec<u8>>, Stop>
@@ -86,12 +89,12 @@ fn fetch_nodedata<L: Library>(
     ensures ok { IfOk result (λ v. IsHeldOrNone (L.held library.old) (lent_name name.entry) (bytes_in v)) }
     ensures stops { IfErr result (λ stop. (i : Input) (c : Commands) (n : Named) →
         SawFetches i (L.held library.old) (L.fetch_faults library.old) (L.fetch_faults library.new) (L.misses library.old) (L.misses library.new) →
-        NamesSets i c n → AreHeldBefore i.held n SetName.Nodedata → lent_name name.entry ≡ n.nodedata → Stops i stop) }
+        NamesSets i c n → Fetches c set → AreHeldBefore i.held n set → lent_name name.entry ≡ name_of n set → Stops i stop) }
 {
     let Some(name) = name else {
         return Ok(None);
     };
-    match fetch_set(alloc, SetName::Nodedata, name, library) {
+    match fetch_set(alloc, set, name, library) {
         Ok(bytes) => Ok(Some(bytes)),
         Err(stop) => Err(stop),
     }
@@ -122,8 +125,8 @@ fn fetch_certdata<L: Library>(
     }
 }
 
-/// The bytes of the data sets that a command fetches, in the order ARCDATA, NODEDATA, CERTDATA. `run` does not look at
-/// CERTDATA.
+/// The bytes of the data sets that a command fetches, in the order ARCDATA, NODEDATA, CONDATA, CERTDATA. `run` does not
+/// look at CERTDATA.
 ///
 /// It stops at the first fetch that is not answered by `Ok`: `ReadFault` where it failed, `Absent` where the library lacks
 /// the name, `TooLong` where it has too many bytes.
@@ -146,11 +149,13 @@ pub(crate) fn fetch_sets<L: Library>(
         NamesSets i command (names_of names.entry) → Stops i stop) }
 {
     let arcdata = fetch_set(alloc, SetName::Arcdata, names.arcdata, library)?;
-    let nodedata = fetch_nodedata(alloc, names.nodedata, library)?;
+    let nodedata = fetch_if_named(alloc, SetName::Nodedata, names.nodedata, library)?;
+    let condata = fetch_if_named(alloc, SetName::Condata, names.condata, library)?;
     let certdata = fetch_certdata(alloc, command, names.certdata, library)?;
     Ok(Sets {
         arcdata,
         nodedata,
+        condata,
         certdata,
     })
 }
@@ -168,23 +173,23 @@ fn read_set(alloc: Global, set: SetName, bytes: Vec<u8>) -> Result<Table, Stop>
     }
 }
 
-// The table of NODEDATA, where it is there.
-fn read_nodedata(alloc: Global, bytes: Option<Vec<u8>>) -> Result<Option<Table>, Stop>
+// The table of a data set, where it is there.
+fn read_if_there(alloc: Global, set: SetName, bytes: Option<Vec<u8>>) -> Result<Option<Table>, Stop>
     ensures ok { IfOk result (IsTableOrNone (bytes_in bytes)) }
     ensures stops { IfErr result (λ stop. (i : Input) (c : Commands) (s : SetBytes) →
-        FetchesSets i c s → AreTablesBefore s SetName.Nodedata → bytes_in bytes ≡ s.nodedata → Stops i stop) }
+        Fetches c set → FetchesSets i c s → AreTablesBefore s set → bytes_in bytes ≡ bytes_of s set → Stops i stop) }
 {
     let Some(bytes) = bytes else {
         return Ok(None);
     };
-    match read_set(alloc, SetName::Nodedata, bytes) {
+    match read_set(alloc, set, bytes) {
         Ok(table) => Ok(Some(table)),
         Err(stop) => Err(stop),
     }
 }
 
-/// The tables of the data sets of a check, read in the order ARCDATA, NODEDATA, CERTDATA. The bytes of each are let go
-/// once it is read. It stops with `NoTable` at the first that is no table.
+/// The tables of the data sets of a check, read in the order ARCDATA, NODEDATA, CONDATA, CERTDATA. The bytes of each are
+/// let go once it is read. It stops with `NoTable` at the first that is no table.
 pub(crate) fn read_tables(alloc: Global, sets: Sets) -> Result<Tables, Stop>
     ensures ok { IfOk result (λ t. AreTables Command.Check (sets_of sets) (grids_of t)) }
     ensures stops { IfErr result (λ stop. (i : Input) → FetchesSets i Command.Check (sets_of sets) → Stops i stop) }
@@ -192,30 +197,40 @@ pub(crate) fn read_tables(alloc: Global, sets: Sets) -> Result<Tables, Stop>
     let Sets {
         arcdata,
         nodedata,
+        condata,
         certdata,
     } = sets;
     let arcdata = read_set(alloc, SetName::Arcdata, arcdata)?;
-    let nodedata = read_nodedata(alloc, nodedata)?;
+    let nodedata = read_if_there(alloc, SetName::Nodedata, nodedata)?;
+    let condata = read_if_there(alloc, SetName::Condata, condata)?;
     let certdata = read_set(alloc, SetName::Certdata, certdata)?;
     Ok(Tables {
         arcdata,
         nodedata,
+        condata,
         certdata,
     })
 }
 
-/// The tables of ARCDATA and NODEDATA of a run, read in this order. It stops with `NoTable` at the first that is no table.
-pub(crate) fn read_network(alloc: Global, sets: Sets) -> Result<(Table, Option<Table>), Stop>
+/// The tables of ARCDATA, NODEDATA and CONDATA of a run, read in this order. It stops with `NoTable` at the first that is
+/// no table.
+pub(crate) fn read_network(
+    alloc: Global,
+    sets: Sets,
+) -> Result<(Table, Option<Table>, Option<Table>), Stop>
     ensures arcs { IfOk result (λ t. IsTable (sets_of sets).arcdata t.0) }
     ensures nodes { IfOk result (λ t. IsTableOrNone (sets_of sets).nodedata t.1) }
+    ensures cons { IfOk result (λ t. IsTableOrNone (sets_of sets).condata t.2) }
     ensures stops { IfErr result (λ stop. (i : Input) → FetchesSets i Command.Run (sets_of sets) → Stops i stop) }
 {
     let Sets {
         arcdata,
         nodedata,
+        condata,
         certdata: _,
     } = sets;
     let arcdata = read_set(alloc, SetName::Arcdata, arcdata)?;
-    let nodedata = read_nodedata(alloc, nodedata)?;
-    Ok((arcdata, nodedata))
+    let nodedata = read_if_there(alloc, SetName::Nodedata, nodedata)?;
+    let condata = read_if_there(alloc, SetName::Condata, condata)?;
+    Ok((arcdata, nodedata, condata))
 }

@@ -244,6 +244,13 @@ fn tells_what_stops_it(rt: HostRuntime) -> Result<(), Fail> {
             "check",
             "proc netflow arcdata=arcs nodedata=nodes certdata=k defcontype=ge;",
             [0, 0, 0],
+            Status::Finished,
+            accepted,
+        ),
+        (
+            "run",
+            "proc netflow arcdata=arcs nodedata=nodes pause1=1; run;",
+            [0, 0, 0],
             Status::ProgramRefused,
             form,
         ),

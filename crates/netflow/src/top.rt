@@ -132,8 +132,8 @@ fn load_problem<L: Library>(
         (n : NamesSets i Run (names_of names.entry)) → n.program ≡ program.now → Stops i stop) }
 {
     let sets = fetch_sets(alloc, Command::Run, names, library)?;
-    let (arcs, nodes) = read_network(alloc, sets)?;
-    pose(alloc, program, arcs, nodes)
+    let (arcs, nodes, cons) = read_network(alloc, sets)?;
+    pose(alloc, program, arcs, nodes, cons)
 }
 
 // What a run is of, or why it stops before the first statement.
@@ -286,17 +286,16 @@ fn run_words<S: Source, L: Library, K: Sink>(
 
 /// Does what the words say, and answers how it ended. Today the words are `check` or `run`.
 ///
-/// `check` reads a program from the source, fetches its three data sets from the library, and accepts the certificate
-/// of CERTDATA exactly where it is valid for the problem of ARCDATA and NODEDATA; the listing then has `ACCEPTED` with
-/// what the certificate claims. `run` reads a program, fetches ARCDATA and NODEDATA, and obeys its statements on their
-/// problem; the listing has the lines of each RUN, statement by statement, and behind them that of an operation that
-/// passes 128 bits. At the end `run` stores the certificate of the last verdict, where the program names CERTOUT=, and
+/// `check` reads a program from the source, fetches its data sets from the library, and accepts the certificate of
+/// CERTDATA exactly where it is valid for the problem of ARCDATA, NODEDATA and CONDATA; the listing then has `ACCEPTED`
+/// with what the certificate claims. `run` reads a program, fetches ARCDATA, NODEDATA and CONDATA, and obeys its
+/// statements on their problem; the listing has the lines of each RUN, statement by statement, and behind them that of
+/// an operation that passes 128 bits. At the end `run` stores the certificate of the last verdict, where the program names CERTOUT=, and
 /// the listing says so.
 ///
 /// Else the listing has the line of one refusal, the first in this order: the words; the source; the program's text;
 /// what the command takes of the language; the fetches; the tables; the roles of their columns; the data; the size of the
-/// problem; and for `check` the table
-/// of the certificate; its validity, or a number that passes 128 bits. What is written is always the front of that
+/// problem; and for `check` the table of the certificate; its validity, or a number that passes 128 bits. What is written is always the front of that
 /// listing: `WriteFault` comes where a put failed in it, or the store, and `NoMemory` where memory ran out, there or
 /// before. But for that one store the library is left as it was.
 pub fn netflow<S: Source, L: Library, K: Sink>(

@@ -1,6 +1,6 @@
-mod Whole
 mod Opened
 mod RunFacts
+mod TurnFacts
 mod Answered
 mod Ended
 mod Listed

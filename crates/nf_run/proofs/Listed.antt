@@ -15,11 +15,11 @@ use Rattle.nf_simplex.specs.Moves.{IsFirstState}
 use Rattle.nf_program.specs.declared.program.SessionOptions.{SessionOptions}
 use Rattle.nf_program.specs.declared.program.Statement.{Statement}
 use Rattle.nf_program.specs.declared.program.Statement.TheVariants as act
-use Rattle.nf_engine.specs.Point.{Point}
 use Rattle.nf_run.specs.declared.event.RunFault.{RunFault}
 use Rattle.nf_run.specs.declared.event.RunFault.TheVariants as fault
 use Rattle.nf_run.specs.declared.line.HaltLine.{HaltLine}
-use Rattle.nf_run.specs.Runs.{AreExplained, Event, Follows, Gives, Lists, event_lines, listing_of, started}
+use Rattle.nf_run.specs.Runs.{AreExplained, Event, Follows, Lists, SaysAt, event_lines, listing_of, opened}
+use Rattle.nf_run.specs.Turns.{Gives, Spot}
 use Rattle.nf_io.specs.Held.{Held}
 use Rattle.nf_prob.specs.declared.cert.Cert.{Cert}
 use Rattle.nf_prob.specs.declared.cert.Cert.TheVariants as cert
@@ -29,7 +29,7 @@ use Rattle.nf_run.specs.declared.line.HaltLine.TheVariants as line
 use Rattle.nf_run.specs.Endings.{Ends, EndsPart, HasProof, IsDue, IsEndFault, last_of}
 use Rattle.nf_run.specs.Steps.{At, HasListed, IsObeyFault, IsOpeningFault, KeepsProof, Obeys, WritesPart}
 use Rattle.nf_run.specs.Stops.{IsListing, ListsAll, ListsFront, ListsPart, StopsWith, is_standing}
-use Rattle.nf_run.specs.Verdicts.{Proves, Says, TellsVerdict}
+use Rattle.nf_run.specs.Verdicts.{Proves, TellsVerdict}
 use Rattle.nf_verdict.specs.Certificates.{IsValid}
 use Rattle.nf_verdict.proofs.Valid.{valid_lengths}
 
@@ -52,7 +52,7 @@ put_after old mid new text more h k = (
 )
 
 -- ---- events
-follows_run : (p : LinearProgram) (o : SessionOptions) (a m b : Point) (acts : List Statement) (events : List Event) (line : HaltLine) → Follows p o a acts events m → Gives p o m line b
+follows_run : (p : LinearProgram) (o : SessionOptions) (a m b : Spot) (acts : List Statement) (events : List Event) (line : HaltLine) → Follows p o a acts events m → Gives p o m line b
     → Follows p o a (acts ++ act.Run ∷ []) (events ++ record { before = m; line = line; after = b } ∷ []) b
 follows_run p o a m b [] events line f g =
     let e : Event = record { before = m; line = line; after = b } in
@@ -67,7 +67,7 @@ follows_run p o a m b (act.Print items ∷ acts) events line f g = absurd f
 follows_run p o a m b (act.Show items ∷ acts) events line f g = absurd f
 follows_run p o a m b (act.Save items ∷ acts) events line f g = absurd f
 
-follows_quit : (p : LinearProgram) (o : SessionOptions) (a m : Point) (acts : List Statement) (events : List Event) → Follows p o a acts events m → Follows p o a (acts ++ act.Quit ∷ []) events m
+follows_quit : (p : LinearProgram) (o : SessionOptions) (a m : Spot) (acts : List Statement) (events : List Event) → Follows p o a acts events m → Follows p o a (acts ++ act.Quit ∷ []) events m
 follows_quit p o a m [] events f = f
 follows_quit p o a m (act.Run ∷ acts) [] f = absurd f
 follows_quit p o a m (act.Run ∷ acts) (e ∷ events) f = (f.0, f.1, follows_quit p o e.after m acts events f.2)
@@ -78,7 +78,7 @@ follows_quit p o a m (act.Print items ∷ acts) events f = absurd f
 follows_quit p o a m (act.Show items ∷ acts) events f = absurd f
 follows_quit p o a m (act.Save items ∷ acts) events f = absurd f
 
-explained_more : (p : LinearProgram) (o : SessionOptions) (events : List Event) (e : Event) → AreExplained p o events → Says p o e.after e.line → AreExplained p o (events ++ e ∷ [])
+explained_more : (p : LinearProgram) (o : SessionOptions) (events : List Event) (e : Event) → AreExplained p o events → SaysAt p o e.after e.line → AreExplained p o (events ++ e ∷ [])
 explained_more p o [] e h k = (k, tt)
 explained_more p o (x ∷ events) e h k = (h.0, explained_more p o events e h.1 k)
 
@@ -87,10 +87,10 @@ listing_more events e =
     flat_map-append (λ (x : Event). event_lines x.line x.after) events (e ∷ []) ∙ ap (λ v. listing_of events ++ v) (append-nil (event_lines e.line e.after))
 
 -- ---- listings
-abbrev pub lists_none : (p : LinearProgram) (o : SessionOptions) (s : Standing) → IsFirstState p s → Lists p o [] (started s) []
+abbrev pub lists_none : (p : LinearProgram) (o : SessionOptions) (s : Standing) → IsFirstState p s → Lists p o [] (opened s) []
 lists_none p o s first = record { start = s; first = first; events = []; follows = (refl, refl); listed = refl; explained = tt }
 
-abbrev lists_run : (p : LinearProgram) (o : SessionOptions) (acts : List Statement) (m b : Point) (text : List ℕ) (line : HaltLine) → Lists p o acts m text → Gives p o m line b → Says p o b line
+abbrev lists_run : (p : LinearProgram) (o : SessionOptions) (acts : List Statement) (m b : Spot) (text : List ℕ) (line : HaltLine) → Lists p o acts m text → Gives p o m line b → SaysAt p o b line
     → Lists p o (acts ++ act.Run ∷ []) b (text ++ event_lines line b)
 lists_run p o acts m b text line l g says =
     let e : Event = record { before = m; line = line; after = b } in
@@ -98,17 +98,17 @@ lists_run p o acts m b text line l g says =
       start = l.start;
       first = l.first;
       events = l.events ++ e ∷ [];
-      follows = follows_run p o (started l.start) m b acts l.events line l.follows g;
+      follows = follows_run p o (opened l.start) m b acts l.events line l.follows g;
       listed = ap (λ v. v ++ event_lines line b) l.listed ∙ sym (listing_more l.events e);
       explained = explained_more p o l.events e l.explained says;
     }
 
-abbrev lists_quit : (p : LinearProgram) (o : SessionOptions) (acts : List Statement) (m : Point) (text : List ℕ) → Lists p o acts m text → Lists p o (acts ++ act.Quit ∷ []) m text
+abbrev lists_quit : (p : LinearProgram) (o : SessionOptions) (acts : List Statement) (m : Spot) (text : List ℕ) → Lists p o acts m text → Lists p o (acts ++ act.Quit ∷ []) m text
 lists_quit p o acts m text l = record {
   start = l.start;
   first = l.first;
   events = l.events;
-  follows = follows_quit p o (started l.start) m acts l.events l.follows;
+  follows = follows_quit p o (opened l.start) m acts l.events l.follows;
   listed = l.listed;
   explained = l.explained;
 }
@@ -124,7 +124,7 @@ pub proof_none : (p : LinearProgram) → HasProof p [] None
 unfolding last_of
 proof_none p = λ e q t. let none : None ≡ Some e = q in cc
 
-pub proof_more : (p : LinearProgram) (events : List Event) (e : Event) (proof : Option Cert) → KeepsProof p e.after.standing e.line proof → HasProof p (events ++ e ∷ []) proof
+pub proof_more : (p : LinearProgram) (events : List Event) (e : Event) (proof : Option Cert) → KeepsProof p e.after.point.standing e.line proof → HasProof p (events ++ e ∷ []) proof
 proof_more p events e (Some c) k = (e, last_more events e, k)
 proof_more p events e None k = λ f q t.
     let both : Some e ≡ Some f = sym (last_more events e) ∙ q in
@@ -156,18 +156,18 @@ proof_lengths p events (Some c) h = valid_lengths p c (proves_valid p c h.0.line
 proof_lengths p events None h = tt
 
 -- ---- listings with the last verdict
-pub listed_none : (p : LinearProgram) (o : SessionOptions) (s : Standing) (old : Option (List ℕ)) → IsFirstState p s → HasListed p o [] (record { point = started s; proof = None }) old old
+pub listed_none : (p : LinearProgram) (o : SessionOptions) (s : Standing) (old : Option (List ℕ)) → IsFirstState p s → HasListed p o [] (record { spot = opened s; proof = None }) old old
 listed_none p o s old first = ([], lists_none p o s first, proof_none p, appends_nothing old)
 
 listed_more : (p : LinearProgram) (o : SessionOptions) (acts : List Statement) (a : Statement) (m b : At) (old mid new : Option (List ℕ)) → is_standing a ≡ true
     → HasListed p o acts m old mid → Obeys p o a m b mid new → HasListed p o (acts ++ a ∷ []) b old new
 listed_more p o acts act.Run m b old mid new e h (line, g, says, keeps, w) = (
-  h.0 ++ event_lines line b.point,
-  lists_run p o acts m.point b.point h.0 line h.1 g says,
-  proof_more p h.1.events (record { before = m.point; line = line; after = b.point }) b.proof keeps,
-  appends-more old mid new h.0 (event_lines line b.point) h.3 w,
+  h.0 ++ event_lines line b.spot,
+  lists_run p o acts m.spot b.spot h.0 line h.1 g says,
+  proof_more p h.1.events (record { before = m.spot; line = line; after = b.spot }) b.proof keeps,
+  appends-more old mid new h.0 (event_lines line b.spot) h.3 w,
 )
-listed_more p o acts act.Quit m b old mid new e h (same, still) = rw (same, still) (h.0, lists_quit p o acts m.point h.0 h.1, h.2, h.3)
+listed_more p o acts act.Quit m b old mid new e h (same, still) = rw (same, still) (h.0, lists_quit p o acts m.spot h.0 h.1, h.2, h.3)
 listed_more p o acts act.Pivot m b old mid new e h k = cc e
 listed_more p o acts (act.Reset items) m b old mid new e h k = cc e
 listed_more p o acts (act.Print items) m b old mid new e h k = cc e
@@ -209,7 +209,7 @@ later_rose a b c h k = omega (arith, h, k)
 -- ---- the end
 module _ (p : LinearProgram) (o : SessionOptions) (acts : List Statement) (certout : Option (List ℕ)) (b : At) (old mid : Option (List ℕ)) (l : HasListed p o acts b old mid) where
   listing : (stored : Option (List ℕ)) (text : List ℕ) → IsDue p certout b.proof stored text → IsListing p o acts certout stored (l.0 ++ text)
-  listing stored text due = record { last = b.point; told = l.0; lists = l.1; proof = b.proof; proved = l.2; ending = text; due = due; whole = refl }
+  listing stored text due = record { last = b.spot; told = l.0; lists = l.1; proof = b.proof; proved = l.2; ending = text; due = due; whole = refl }
 
   pub ends_all : (new : Option (List ℕ)) (held now : Option Held) → Ends p certout b.proof mid new held now → ListsAll p o acts certout old new held now
   ends_all new held now (stored, text, due, w, s) = (stored, l.0 ++ text, listing stored text due, appends-more old mid new l.0 text l.3 w, s)
@@ -222,27 +222,27 @@ module _ (p : LinearProgram) (o : SessionOptions) (acts : List Statement) (certo
   end_fails new before then after held now stores stores_after (fault.Range stage pivots passed) later h = absurd h
   end_fails new before then after held now stores stores_after fault.Write later (inl h) = inl (later_rose before then after later h.0, inr (ends_part new held now h.1))
   end_fails new before then after held now stores stores_after fault.Write later (inr h) =
-      inr (h.0, record { last = b.point; text = l.0; lists = l.1; proof = b.proof; proved = l.2; listed = subst (λ v. Appends old v l.0) (sym h.1) l.3; fails = h.2 })
+      inr (h.0, record { last = b.spot; text = l.0; lists = l.1; proof = b.proof; proved = l.2; listed = subst (λ v. Appends old v l.0) (sym h.1) l.3; fails = h.2 })
   end_fails new before then after held now stores stores_after fault.NoMemory later (inl h) =
-      inl (l.0, inr (acts, [], b.point, sym (append-nil acts), l.1), put_whole old new l.0 (subst (λ v. Appends old v l.0) (sym h.0) l.3), h.1)
+      inl (l.0, inr (acts, [], b.spot, sym (append-nil acts), l.1), put_whole old new l.0 (subst (λ v. Appends old v l.0) (sym h.0) l.3), h.1)
   end_fails new before then after held now stores stores_after fault.NoMemory later (inr h) = inr (ends_part new held now h)
 
 -- ---- where a statement stops
 writes_front : (p : LinearProgram) (o : SessionOptions) (acts : List Statement) (i : ℕ) (m : At) (old mid new : Option (List ℕ)) (held : Option Held) → i < length acts → act.Run ≡ get_or acts i act.Run
-    → HasListed p o (take i acts) m old mid → WritesPart p o m.point mid new → ListsFront p o acts old new held held
+    → HasListed p o (take i acts) m old mid → WritesPart p o m.spot mid new → ListsFront p o acts old new held held
 writes_front p o acts i m old mid new held h e l (line, b, g, says, w) =
     let now : Lists p o (take (i + 1) acts) b (l.0 ++ event_lines line b) =
-    subst (λ v. Lists p o v b (l.0 ++ event_lines line b)) (sym (take_next acts i act.Run h e)) (lists_run p o (take i acts) m.point b l.0 line l.1 g says) in
+    subst (λ v. Lists p o v b (l.0 ++ event_lines line b)) (sym (take_next acts i act.Run h e)) (lists_run p o (take i acts) m.spot b l.0 line l.1 g says) in
     (l.0 ++ event_lines line b, inr (take (i + 1) acts, drop (i + 1) acts, b, split_after acts (i + 1), now), put_after old mid new l.0 (event_lines line b) l.3 w, refl)
 
 -- the statement that fails
 pub stops_at : (p : LinearProgram) (o : SessionOptions) (acts : List Statement) (certout : Option (List ℕ)) (i : ℕ) (a : Statement) (m : At) (old mid new : Option (List ℕ)) (before then after : ℕ) (held : Option Held) (stores : ℕ) (f : RunFault)
-    → i < length acts → a ≡ get_or acts i a → before ≤ then → HasListed p o (take i acts) m old mid → IsObeyFault p o a m.point mid new then after f → StopsWith p o acts certout old new before after held held stores stores f
+    → i < length acts → a ≡ get_or acts i a → before ≤ then → HasListed p o (take i acts) m old mid → IsObeyFault p o a m.spot mid new then after f → StopsWith p o acts certout old new before after held held stores stores f
 stops_at p o acts certout i act.Run m old mid new before then after held stores (fault.Range stage pivots passed) h e later l k =
-    (k.0, l.0, inr (take i acts, drop (i + 1) acts, m.point, split_at_place acts i act.Run h e, l.1, k.1), subst (λ v. Appends old v l.0) (sym k.2) l.3, refl)
+    (l.0, inr (take i acts, drop (i + 1) acts, m.spot, split_at_place acts i act.Run h e, l.1, k.0), subst (λ v. Appends old v l.0) (sym k.1) l.3, refl)
 stops_at p o acts certout i act.Run m old mid new before then after held stores fault.Write h e later l k = inl (later_rose before then after later k.0, inl (writes_front p o acts i m old mid new held h e l k.1))
 stops_at p o acts certout i act.Run m old mid new before then after held stores fault.NoMemory h e later l (inl k) =
-    inl (l.0, inr (take i acts, drop i acts, m.point, split_after acts i, l.1), put_whole old new l.0 (subst (λ v. Appends old v l.0) (sym k) l.3), refl)
+    inl (l.0, inr (take i acts, drop i acts, m.spot, split_after acts i, l.1), put_whole old new l.0 (subst (λ v. Appends old v l.0) (sym k) l.3), refl)
 stops_at p o acts certout i act.Run m old mid new before then after held stores fault.NoMemory h e later l (inr k) = inl (writes_front p o acts i m old mid new held h e l k)
 stops_at p o acts certout i act.Quit m old mid new before then after held stores f h e later l k = absurd k
 stops_at p o acts certout i act.Pivot m old mid new before then after held stores f h e later l k = absurd k
@@ -253,6 +253,6 @@ stops_at p o acts certout i (act.Save items) m old mid new before then after hel
 
 -- the opening fails
 pub stops_opening : (p : LinearProgram) (o : SessionOptions) (acts : List Statement) (certout old : Option (List ℕ)) (n : ℕ) (held : Option Held) (stores : ℕ) (f : RunFault) → IsOpeningFault p f → StopsWith p o acts certout old old n n held held stores stores f
-stops_opening p o acts certout old n held stores (fault.Range stage pivots passed) h = (h.0, [], inl (refl, h.1, h.2), appends_nothing old, refl)
+stops_opening p o acts certout old n held stores (fault.Range stage pivots passed) h = ([], inl (refl, h.0, h.1, h.2), appends_nothing old, refl)
 stops_opening p o acts certout old n held stores fault.Write h = absurd h
 stops_opening p o acts certout old n held stores fault.NoMemory h = inl ([], inl refl, put_whole old old [] (appends_nothing old), refl)

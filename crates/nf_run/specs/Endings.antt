@@ -26,7 +26,7 @@ last_of (e ∷ f ∷ events) = last_of (f ∷ events)
 
 -- The last event told a verdict, which this certificate proves; or, where there is none, the last told no verdict.
 abbrev pub HasProof : LinearProgram → List Event → Option Cert → Type 0
-HasProof p events (Some c) = (e : Event) × (last_of events ≡ Some e) × ((how : Ended) × IsVerdict p e.after.standing how c e.line)
+HasProof p events (Some c) = (e : Event) × (last_of events ≡ Some e) × ((how : Ended) × IsVerdict p e.after.point.standing how c e.line)
 HasProof p events None = (e : Event) → last_of events ≡ Some e → TellsVerdict e.line → ⊥
 
 -- ---- what is stored

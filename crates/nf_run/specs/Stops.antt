@@ -11,11 +11,11 @@ use Rattle.nf_prob.specs.declared.cert.Cert.{Cert}
 use Rattle.nf_program.specs.declared.program.SessionOptions.{SessionOptions}
 use Rattle.nf_program.specs.declared.program.Statement.{Statement}
 use Rattle.nf_program.specs.declared.program.Statement.TheVariants as act
-use Rattle.nf_engine.specs.Point.{Point}
 use Rattle.nf_run.specs.declared.event.RunFault.{RunFault}
 use Rattle.nf_run.specs.declared.event.RunFault.TheVariants as fault
 use Rattle.nf_run.specs.Endings.{FailsToStore, HasProof, IsDue, Stores}
 use Rattle.nf_run.specs.Runs.{IsCut, IsFront, Lists}
+use Rattle.nf_run.specs.Turns.{Spot}
 
 -- A statement that stands today: RUN or QUIT.
 abbrev pub is_standing : Statement → Bool
@@ -31,7 +31,7 @@ are_standing acts = list_all is_standing acts
 -- The text is the listing of the whole program, and these bytes, if any, are what it stores: the listing of its
 -- statements, and then what is due at the end, where this certificate proves the last verdict.
 pub record IsListing (p : LinearProgram) (o : SessionOptions) (acts : List Statement) (certout : Option (List ℕ)) (stored : Option (List ℕ)) (text : List ℕ) : Type 0 where
-  pub last : Point
+  pub last : Spot
   pub told : List ℕ
   pub lists : Lists p o acts last told
   pub proof : Option Cert
@@ -55,7 +55,7 @@ ListsPart p o acts certout old new held now = (stored : Option (List ℕ)) × (t
 
 -- The listing of all statements was written, and the store that was then due failed: each other name has what it had.
 pub record StopsAtStore (p : LinearProgram) (o : SessionOptions) (acts : List Statement) (certout old new : Option (List ℕ)) (held now : Option Held) : Type 0 where
-  pub last : Point
+  pub last : Spot
   pub text : List ℕ
   pub lists : Lists p o acts last text
   pub proof : Option Cert
@@ -67,7 +67,7 @@ pub record StopsAtStore (p : LinearProgram) (o : SessionOptions) (acts : List St
 -- stores before and after.
 abbrev pub StopsWith : LinearProgram → SessionOptions → List Statement → Option (List ℕ) → Option (List ℕ) → Option (List ℕ) → ℕ → ℕ → Option Held → Option Held → ℕ → ℕ → RunFault → Type 0
 StopsWith p o acts certout old new before after held now stores stores_after (fault.Range stage pivots passed) =
-    (stage ≡ 1) × (text : List ℕ) × IsCut p o acts text pivots passed × Appends old new text × (now ≡ held)
+    (text : List ℕ) × IsCut p o acts text stage pivots passed × Appends old new text × (now ≡ held)
 StopsWith p o acts certout old new before after held now stores stores_after fault.Write =
     (Rose before after × (ListsFront p o acts old new held now ⊎ ListsPart p o acts certout old new held now))
     ⊎ (Rose stores stores_after × StopsAtStore p o acts certout old new held now)

@@ -10,7 +10,6 @@ use Rattle.nf_simplex.specs.Standing.{Standing}
 use Rattle.nf_prob.specs.declared.cert.Cert.{Cert}
 use Rattle.nf_prob.specs.declared.cert.Cert.TheVariants as cert
 use Rattle.nf_basis.specs.declared.col.Col.{Col}
-use Rattle.nf_program.specs.declared.program.SessionOptions.{SessionOptions}
 use Rattle.nf_engine.specs.declared.halt.Halt.{Halt}
 use Rattle.nf_engine.specs.declared.halt.Halt.TheVariants.{Ended, Limit, Pause, Feasible}
 use Rattle.nf_engine.specs.declared.halt.Moved.{Moved}
@@ -23,7 +22,7 @@ use Rattle.nf_verdict.specs.declared.ended.Ended.TheVariants as end
 use Rattle.nf_verdict.specs.Certificates.{HasEndedSo, IsCertOf}
 use Rattle.nf_run.specs.declared.line.HaltLine.{HaltLine}
 use Rattle.nf_run.specs.declared.line.HaltLine.TheVariants as line
-use Rattle.nf_run.specs.Setting.{pauses_of, rule_for}
+use Rattle.nf_run.specs.declared.setting.Setting.{Setting}
 
 -- ---- a verdict and its proof
 -- A certificate proves a line: OPTIMAL, that its flows are feasible, that no feasible flows cost less, and what they
@@ -62,26 +61,26 @@ MeansEnd moved.NoFlow end.NoFlow = Unit {0}
 MeansEnd (moved.NoBound c) (end.NoBound d) = d ≡ c
 MeansEnd _ _ = ⊥
 
--- The line tells a halt at state s.
-abbrev pub Tells : LinearProgram → SessionOptions → Standing → Halt → HaltLine → Type 0
-Tells p o s (Ended m) told = (how : End) × MeansEnd m how × HasVerdict p s how told
-Tells p o s Limit told = told ≡ line.Limit 1 o.maxit1
-Tells p o s Pause told = told ≡ line.Pause 1
-Tells p o s Feasible told = told ≡ line.Feasible
+-- The line tells a halt at state s of a stage of which the program asks w.
+abbrev pub Tells : LinearProgram → Setting → Standing → Halt → HaltLine → Type 0
+Tells p w s (Ended m) told = (how : End) × MeansEnd m how × HasVerdict p s how told
+Tells p w s Limit told = told ≡ line.Limit w.stage w.most
+Tells p w s Pause told = told ≡ line.Pause w.stage
+Tells p w s Feasible told = told ≡ line.Feasible
 
 -- ---- what it says
--- What a line says, where it stands behind a RUN that has come to b.
-abbrev pub Says : LinearProgram → SessionOptions → Point → HaltLine → Type 0
+-- What a line says, where it stands behind a RUN that has come to b, in a stage of which the program asks w.
+abbrev pub Says : LinearProgram → Setting → Point → HaltLine → Type 0
 -- the state has ended optimal, and by its flows and printed duals the flows are best and cost this
-Says p o b (line.Optimal f) = HasVerdict p b.standing end.Best (line.Optimal f)
+Says p w b (line.Optimal f) = HasVerdict p b.standing end.Best (line.Optimal f)
 -- the state has ended infeasible, and by its duals of phase one nothing is feasible, with this gap
-Says p o b (line.Infeasible f) = HasVerdict p b.standing end.NoFlow (line.Infeasible f)
+Says p w b (line.Infeasible f) = HasVerdict p b.standing end.NoFlow (line.Infeasible f)
 -- the state has ended unbounded at a column that the rule picks, and by its flows and what they do while this column
 -- moves costs have no least, with this rate
-Says p o b (line.Unbounded f) = (c : Col) × Picks p (rule_for o.pricetype1) b.standing b.cursor c × HasVerdict p b.standing (end.NoBound c) (line.Unbounded f)
+Says p w b (line.Unbounded f) = (c : Col) × Picks p w.rule b.standing b.cursor c × HasVerdict p b.standing (end.NoBound c) (line.Unbounded f)
 -- the stage's count of pivots is at least the limit that the program set
-Says p o b (line.Limit stage most) = (stage ≡ 1) × (most ≡ o.maxit1) × (most ≤ b.pivots)
+Says p w b (line.Limit stage most) = (stage ≡ w.stage) × (most ≡ w.most) × (most ≤ b.pivots)
 -- the program set the pause, and it is due
-Says p o b (line.Pause stage) = (stage ≡ 1) × IsPauseDue (pauses_of o) b.pivots
+Says p w b (line.Pause stage) = (stage ≡ w.stage) × IsPauseDue w.pauses b.pivots
 -- the program asked for it
-Says p o b line.Feasible = o.feasiblepause1 ≡ true
+Says p w b line.Feasible = w.pauses.feasible ≡ true

@@ -7,6 +7,9 @@ mod event;
 mod line;
 mod opening;
 mod run;
+mod session;
+mod setting;
+mod stage;
 mod statements;
 mod verdict;
 

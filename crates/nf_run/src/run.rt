@@ -1,143 +1,32 @@
-//! One RUN.
-ghost use Rattle.std.specs.Prelude.{◌≡◌, IfOk, IfErr};
+//! One RUN, in one stage or over the end of stage one.
+ghost use Rattle.std.specs.Prelude.{◌≡◌, ◌↔◌, IfOk, IfErr, IsTrue};
+ghost use Rattle.nf_simplex.specs.StageOf.{StageOne, StageTwo};
 ghost use Rattle.nf_simplex.specs.Standing.{IsFeasibleState};
-ghost use Rattle.nf_verdict.specs.declared.ended.Ended.{Ended as End};
-ghost use Rattle.nf_verdict.specs.Certificates.{IsCertFault};
-ghost use Rattle.nf_run.specs.Setting.{IsPlain, pauses_of, rule_for};
-ghost use Rattle.nf_run.specs.Runs.{Gives, counts_at};
-ghost use Rattle.nf_run.specs.Steps.{IsHaltIn, IsRunFault, KeepsProof, Shows, number_fault, point_at};
-ghost use Rattle.nf_run.specs.Verdicts.{MeansEnd, Says};
+ghost use Rattle.nf_basis.specs.Dense.{HoldsNumbers};
+ghost use Rattle.nf_run.specs.Runs.{SaysAt};
+ghost use Rattle.nf_run.specs.Setting.{IsPlain, setting_in};
+ghost use Rattle.nf_run.specs.Steps.{IsHaltIn, IsReady, IsReadyIn, IsRunFault, IsStageFault, IsStartingFault, IsTellingFault, KeepsProof, Shows, number_fault, point_at, spot_at, spot_one, spot_two, starting_fault};
+ghost use Rattle.nf_run.specs.Turns.{Gives, GivesInStage, IsOver, Runs, StartsTwo, started};
 
 use crate::event::RunFault;
-use crate::line::{Counts, HaltLine};
-use crate::verdict::verdict;
-use nf_basis::Basis;
-use nf_engine::{Engine, Halt, Moved, Pauses};
-use nf_frac::{Passed, Steps};
-use nf_price::Rule;
+use crate::line::HaltLine;
+use crate::session::{Place, Session, StagePoint};
+use crate::setting::{Setting, setting_one, setting_two};
+use crate::stage::{line_of, run_stage};
+use nf_basis::{Basis, DenseBasis, StartFault};
+use nf_engine::{Halt, Moved};
+use nf_frac::Steps;
 use nf_prob::{Cert, Problem};
-use nf_stmt::{PriceType, SessionOptions};
-use nf_verdict::{CertOfFault, Ended};
+use nf_stmt::SessionOptions;
+use nf_verdict::CertOfFault;
+use nf_widen::{start_two, widen};
 use std::alloc::Global;
 use std::sync::ledger::Ledger;
 
-/// Where a run stands between its statements: the basis of its state, the pivots of the stage, the number of the column
-/// that was picked last, and the certificate of the last halt, where this was a verdict.
-#[derive(Drop)]
-pub(crate) struct Session<B: Basis> {
-    pub(crate) basis: B,
-    pub(crate) pivots: u64,
-    pub(crate) cursor: u32,
-    pub(crate) proof: Option<Cert>,
-}
-
-impl<B: Basis> Session<B> {
-    /// The counts of pivots.
-    pub(crate) fn counts(&self) -> Counts
-        ensures { result ≡ counts_at (point_at B.standing self.now) }
-    {
-        Counts {
-            one: self.pivots,
-            two: 0,
-        }
-    }
-}
-
-// The rule of pricing that an option names.
-fn rule_for(option: PriceType) -> Rule
-    ensures { result ≡ rule_for option }
-{
-    match option {
-        PriceType::First => Rule::First,
-        PriceType::Best => Rule::Best,
-        PriceType::Bland => Rule::Bland,
-    }
-}
-
-// When stage one pauses.
-fn pauses_of(options: &SessionOptions) -> Pauses
-    ensures { result ≡ pauses_of options.now }
-{
-    Pauses {
-        every: u64::from(options.pause1),
-        feasible: options.feasiblepause1,
-    }
-}
-
-// The fault at so many pivots.
-fn at_pivots(pivots: u64, fault: CertOfFault) -> RunFault
-    ensures { result ≡ number_fault pivots fault }
-{
-    match fault {
-        CertOfFault::Passed(passed) => range(pivots, passed),
-        CertOfFault::NoMemory => RunFault::NoMemory,
-    }
-}
-
-// An operation passes at so many pivots of stage one.
-fn range(pivots: u64, passed: Passed) -> RunFault
-    ensures { result ≡ RunFault.Range 1 pivots passed }
-{
-    RunFault::Range {
-        stage: 1,
-        pivots,
-        passed,
-    }
-}
-
-// How a state has ended, where the engine says so.
-fn end_of(moved: Moved) -> Ended
-    requires ended { (how : End) × MeansEnd moved how }
-    ensures means { MeansEnd moved result }
-{
-    match moved {
-        Moved::Best => Ended::Best,
-        Moved::NoFlow => Ended::NoFlow,
-        Moved::NoBound(column) => Ended::NoBound(column),
-        Moved::Pivoted { .. } | Moved::Flipped(_) => unreachable!(),
-    }
-}
-
-// The line of a halt at a state, and the certificate of a verdict.
-fn line_of<B: Basis, L: Ledger>(
-    alloc: Global,
-    p: &Problem,
-    options: &SessionOptions,
-    basis: &mut B,
-    halt: Halt,
-    steps: &mut Steps<L>,
-) -> Result<(HaltLine, Option<Cert>), CertOfFault>
-    requires plain { IsPlain p.now }
-    requires numbers { B.HasNumbers p.now basis.old }
-    requires feasible { IsFeasibleState p.now (B.standing basis.old) }
-    requires halt { IsHaltIn p.now options.now (B.standing basis.old) halt }
-    ensures numbers { IfOk result (λ _. B.HasNumbers p.now basis.new) }
-    ensures standing { IfOk result (λ _. B.standing basis.new ≡ B.standing basis.old) }
-    ensures shows { IfOk result (λ r. Shows p.now options.now (B.standing basis.old) halt r.0 r.1) }
-    ensures fault { IfErr result (IsCertFault p.now (B.standing basis.old)) }
-{
-    match halt {
-        Halt::Ended(moved) => {
-            let (line, cert) = verdict(alloc, p, basis, end_of(moved), steps)?;
-            Ok((line, Some(cert)))
-        }
-        Halt::Limit => Ok((
-            HaltLine::Limit {
-                stage: 1,
-                most: options.maxit1,
-            },
-            None,
-        )),
-        Halt::Pause => Ok((HaltLine::Pause(1), None)),
-        Halt::Feasible => Ok((HaltLine::Feasible, None)),
-    }
-}
-
-/// Goes on from where the session stands to the halt that is due, and answers its line and where the session then
-/// stands, with the certificate of a verdict.
+/// Goes on from where a session stands to the halt that is due, and answers its line and the session then, with the
+/// certificate of a verdict. Where stage one ends otherwise than infeasible and stage two is to come, stage two starts.
 ///
-/// The pivots are steps of the engine under the program's rule. An operation that passes 128 bits is told with the
-/// pivots that were made before it.
+/// An operation that passes 128 bits is told with its stage and the pivots of this stage that were made before it.
 pub(crate) fn run<B: Basis, L: Ledger>(
     alloc: Global,
     p: &Problem,
@@ -146,43 +35,191 @@ pub(crate) fn run<B: Basis, L: Ledger>(
     steps: &mut Steps<L>,
 ) -> Result<(HaltLine, Session<B>), RunFault>
     requires plain { IsPlain p.now }
-    requires numbers { B.HasNumbers p.now session.basis }
-    requires feasible { IsFeasibleState p.now (B.standing session.basis) }
-    ensures numbers { IfOk result (λ r. B.HasNumbers p.now r.1.basis) }
-    ensures feasible { IfOk result (λ r. IsFeasibleState p.now (B.standing r.1.basis)) }
-    ensures gives { IfOk result (λ r. Gives p.now options.now (point_at B.standing session) r.0 (point_at B.standing r.1)) }
-    ensures proof { IfOk result (λ r. KeepsProof p.now (B.standing r.1.basis) r.0 r.1.proof) }
-    ensures says { IfOk result (λ r. Says p.now options.now (point_at B.standing r.1) r.0) }
-    ensures fault { IfErr result (IsRunFault p.now options.now (point_at B.standing session)) }
+    requires ready { IsReady p.now B.HasNumbers B.standing session.place }
+    ensures ready { IfOk result (λ r. IsReady p.now B.HasNumbers B.standing r.1.place) }
+    ensures gives { IfOk result (λ r. Gives p.now options.now (spot_at B.standing session.place) r.0 (spot_at B.standing r.1.place)) }
+    ensures proof { IfOk result (λ r. KeepsProof p.now (spot_at B.standing r.1.place).point.standing r.0 r.1.proof) }
+    ensures says { IfOk result (λ r. SaysAt p.now options.now (spot_at B.standing r.1.place) r.0) }
+    ensures fault { IfErr result (IsRunFault p.now options.now (spot_at B.standing session.place)) }
 {
-    let Session {
-        basis,
+    let Session { place, proof: _ } = session;
+    match place {
+        Place::One(from) => run_one(alloc, p, options, from, steps),
+        Place::Two(from, earlier) => run_two(alloc, p, options, from, earlier, steps),
+    }
+}
+
+// Whether a halt of stage one is its end, otherwise than infeasible, and stage two is to come.
+fn is_over(p: &Problem, halt: Halt) -> bool
+    ensures { IsTrue result ↔ IsOver p.now StageOne halt }
+{
+    match halt {
+        Halt::Ended(Moved::Best | Moved::NoBound(_)) => {
+            p.nodes() < p.rows() || p.arcs() < p.columns()
+        }
+        _ => false,
+    }
+}
+
+// A RUN from a point of stage one.
+fn run_one<B: Basis, L: Ledger>(
+    alloc: Global,
+    p: &Problem,
+    options: &SessionOptions,
+    from: StagePoint<B>,
+    steps: &mut Steps<L>,
+) -> Result<(HaltLine, Session<B>), RunFault>
+    requires plain { IsPlain p.now }
+    requires ready { IsReadyIn p.now B.HasNumbers B.standing StageOne from.basis }
+    ensures ready { IfOk result (λ r. IsReady p.now B.HasNumbers B.standing r.1.place) }
+    ensures gives { IfOk result (λ r. Gives p.now options.now (spot_one B.standing from) r.0 (spot_at B.standing r.1.place)) }
+    ensures proof { IfOk result (λ r. KeepsProof p.now (spot_at B.standing r.1.place).point.standing r.0 r.1.proof) }
+    ensures says { IfOk result (λ r. SaysAt p.now options.now (spot_at B.standing r.1.place) r.0) }
+    ensures fault { IfErr result (IsRunFault p.now options.now (spot_one B.standing from)) }
+{
+    let setting = setting_one(options);
+    let (halt, at) = run_stage(alloc, p, setting, from, steps)?;
+    if is_over(p, halt) {
+        let earlier = at.pivots;
+        let second = start_stage_two(alloc, p, at.basis, steps)?;
+        return run_two(alloc, p, options, second, earlier, steps);
+    }
+    let told = tell(alloc, p, setting, at, halt, steps)?;
+    Ok((
+        told.line,
+        Session {
+            place: Place::One(told.at),
+            proof: told.proof,
+        },
+    ))
+}
+
+// A RUN from a point of stage two, before which stage one had so many pivots.
+fn run_two<B: Basis, L: Ledger>(
+    alloc: Global,
+    p: &Problem,
+    options: &SessionOptions,
+    from: StagePoint<DenseBasis>,
+    earlier: u64,
+    steps: &mut Steps<L>,
+) -> Result<(HaltLine, Session<B>), RunFault>
+    requires ready { IsReadyIn p.now HoldsNumbers (λ b. b.state.standing) StageTwo from.basis }
+    ensures ready { IfOk result (λ r. IsReady p.now B.HasNumbers B.standing r.1.place) }
+    ensures gives { IfOk result (λ r. GivesInStage p.now options.now (spot_two from earlier) r.0 (spot_at B.standing r.1.place)) }
+    ensures proof { IfOk result (λ r. KeepsProof p.now (spot_at B.standing r.1.place).point.standing r.0 r.1.proof) }
+    ensures says { IfOk result (λ r. SaysAt p.now options.now (spot_at B.standing r.1.place) r.0) }
+    ensures fault { IfErr result (IsStageFault p.now (setting_in options.now StageTwo) (spot_two from earlier).point) }
+{
+    let setting = setting_two(options);
+    let (halt, at) = run_stage(alloc, p, setting, from, steps)?;
+    let told = tell(alloc, p, setting, at, halt, steps)?;
+    Ok((
+        told.line,
+        Session {
+            place: Place::Two(told.at, earlier),
+            proof: told.proof,
+        },
+    ))
+}
+
+// A halt that was told: its line, the certificate of a verdict, and the point at which it came.
+#[derive(Drop)]
+struct Told<B: Basis> {
+    line: HaltLine,
+    proof: Option<Cert>,
+    at: StagePoint<B>,
+}
+
+// Tells a halt at a point of a stage.
+fn tell<B: Basis, L: Ledger>(
+    alloc: Global,
+    p: &Problem,
+    setting: Setting,
+    at: StagePoint<B>,
+    halt: Halt,
+    steps: &mut Steps<L>,
+) -> Result<Told<B>, RunFault>
+    requires numbers { B.HasNumbers p.now at.basis }
+    requires feasible { IsFeasibleState p.now (B.standing at.basis) }
+    requires halt { IsHaltIn p.now setting (B.standing at.basis) halt }
+    requires not_over { IsOver p.now (B.standing at.basis).stage halt → ⊥ }
+    ensures numbers { IfOk result (λ t. B.HasNumbers p.now t.at.basis) }
+    ensures at { IfOk result (λ t. point_at B.standing t.at ≡ point_at B.standing at) }
+    ensures shows { IfOk result (λ t. Shows p.now setting (B.standing at.basis) halt t.line t.proof) }
+    ensures fault { IfErr result (IsTellingFault p.now setting (point_at B.standing at)) }
+{
+    let StagePoint {
+        mut basis,
         pivots,
         cursor,
-        proof: _,
-    } = session;
-    let mut engine = match Engine::new(alloc, p, basis, pivots, cursor) {
-        Ok(engine) => engine,
-        Err(_) => return Err(RunFault::NoMemory),
-    };
-    let most = u64::from(options.maxit1);
-    let pauses = pauses_of(options);
-    let halt = match engine.run(p, rule_for(options.pricetype1), most, &pauses, steps) {
-        Ok(halt) => halt,
-        Err(passed) => return Err(range(engine.pivots(), passed)),
-    };
-    let (pivots, cursor) = (engine.pivots(), engine.cursor());
-    let mut basis = engine.into_basis();
-    match line_of(alloc, p, options, &mut basis, halt, steps) {
-        Ok((line, proof)) => Ok((
+    } = at;
+    match line_of(alloc, p, setting, &mut basis, halt, steps) {
+        Ok((line, proof)) => Ok(Told {
             line,
-            Session {
+            proof,
+            at: StagePoint {
                 basis,
                 pivots,
                 cursor,
-                proof,
             },
-        )),
-        Err(fault) => Err(at_pivots(pivots, fault)),
+        }),
+        Err(fault) => Err(at_pivots(setting.stage, pivots, fault)),
+    }
+}
+
+// The fault in a stage at so many pivots.
+fn at_pivots(stage: u8, pivots: u64, fault: CertOfFault) -> RunFault
+    ensures { result ≡ number_fault stage pivots fault }
+{
+    match fault {
+        CertOfFault::Passed(passed) => RunFault::Range {
+            stage,
+            pivots,
+            passed,
+        },
+        CertOfFault::NoMemory => RunFault::NoMemory,
+    }
+}
+
+// Starts stage two after the state of a basis of stage one.
+fn start_stage_two<B: Basis, L: Ledger>(
+    alloc: Global,
+    p: &Problem,
+    first: B,
+    steps: &mut Steps<L>,
+) -> Result<StagePoint<DenseBasis>, RunFault>
+    requires plain { IsPlain p.now }
+    requires ready { IsReadyIn p.now B.HasNumbers B.standing StageOne first }
+    ensures ready { IfOk result (λ q. IsReadyIn p.now HoldsNumbers (λ b. b.state.standing) StageTwo q.basis) }
+    ensures starts { IfOk result (λ q. StartsTwo p.now (B.standing first) q.basis.state.standing) }
+    ensures started { IfOk result (λ q. point_at (λ b. b.state.standing) q ≡ started q.basis.state.standing) }
+    ensures fault { IfErr result (IsStartingFault p.now (B.standing first)) }
+{
+    let mut first = first;
+    let state = match start_two(alloc, p, &first, steps) {
+        Ok(state) => state,
+        Err(fault) => return Err(starting_fault(fault)),
+    };
+    match widen(alloc, p, &mut first, state, steps) {
+        Ok(basis) => Ok(StagePoint {
+            basis,
+            pivots: 0,
+            cursor: 0,
+        }),
+        Err(fault) => Err(starting_fault(fault)),
+    }
+}
+
+// The fault where stage two does not start.
+fn starting_fault(fault: StartFault) -> RunFault
+    ensures { result ≡ starting_fault fault }
+{
+    match fault {
+        StartFault::Passed(passed) => RunFault::Range {
+            stage: 2,
+            pivots: 0,
+            passed,
+        },
+        StartFault::NoMemory => RunFault::NoMemory,
     }
 }

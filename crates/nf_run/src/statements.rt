@@ -2,16 +2,16 @@
 ghost use Rattle.std.specs.Option.{option_copied};
 ghost use Rattle.std.specs.Prelude.{true, ◌≡◌, ◌<◌, ◌≤◌, ℕ, List, OnOk, IfOk, IfErr};
 ghost use Rattle.nf_simplex.specs.StageOf.{StageOne};
-ghost use Rattle.nf_simplex.specs.Standing.{IsFeasibleState};
 ghost use Rattle.nf_run.specs.Setting.{IsPlain};
-ghost use Rattle.nf_run.specs.Steps.{IsObeyFault, Obeys, session_at};
+ghost use Rattle.nf_run.specs.Steps.{IsObeyFault, IsReady, Obeys, session_at};
 ghost use Rattle.nf_run.specs.Stops.{ListsAll, StopsWith, are_standing, is_standing};
 
 use crate::ending::end;
 use crate::event::RunFault;
 use crate::line::halt_text;
 use crate::opening::open;
-use crate::run::{Session, run};
+use crate::run::run;
+use crate::session::{Place, Session, StagePoint};
 use nf_basis::{Basis, DenseBasis};
 use nf_frac::Steps;
 use nf_io::{Library, PutFault, Sink, write_all};
@@ -27,10 +27,12 @@ use std::sync::ledger::{Blank, Ledger};
 ///
 /// A RUN makes one step of the simplex method after another until a halt is due, and writes it with the pivots so far:
 /// `OPTIMAL` with the cost of the flows, `INFEASIBLE` with the gap or `UNBOUNDED` with the rate, once the certificate
-/// that proves it has been checked; or the limit or the pause that the program has set. The problem is a network without
-/// side rows, of at most 1,000 nodes.
+/// that proves it has been checked; or the limit or the pause that the program has set. Where the problem has side rows or
+/// nonarc variables, stage two starts where stage one has ended, if this is not infeasible, and the RUN goes on in it. The
+/// problem has at most 1,000 rows.
 ///
-/// `Range` comes only where an operation passes 128 bits that arises from the state of this run after so many pivots;
+/// `Range` comes only where an operation passes 128 bits that arises from the state of this run after so many pivots of
+/// the stage that it names; at the first pivot of stage two also from the last state of stage one;
 /// `Write` only where the sink's faults rose, and then a front of the listing is written, or where the failed stores
 /// rose, and then the listing of all statements is; `NoMemory` like the first. No name but `certout` is changed.
 pub fn run_program<K: Sink, D: Library>(
@@ -115,9 +117,11 @@ fn obey_all<B: Basis, L: Ledger, K: Sink, D: Library>(
     let mut steps = Steps::<L>::new(blank);
     let basis = open::<B, L>(alloc, p, &mut steps)?;
     let mut session = Session {
-        basis,
-        pivots: 0,
-        cursor: 0,
+        place: Place::One(StagePoint {
+            basis,
+            pivots: 0,
+            cursor: 0,
+        }),
         proof: None,
     };
     'acts: for act in acts {
@@ -137,15 +141,13 @@ fn obey<B: Basis, L: Ledger, K: Sink>(
     steps: &mut Steps<L>,
 ) -> Result<Session<B>, RunFault>
     requires plain { IsPlain p.now }
-    requires numbers { B.HasNumbers p.now session.basis }
-    requires feasible { IsFeasibleState p.now (B.standing session.basis) }
+    requires ready { IsReady p.now B.HasNumbers B.standing session.place }
     ensures later { K.faults listing.old ≤ K.faults listing.new }
     ensures quiet { K.quiet listing.new ≡ K.quiet listing.old }
     ensures calm { K.quiet listing.old ≡ true → K.faults listing.new ≡ K.faults listing.old }
-    ensures numbers { IfOk result (λ s. B.HasNumbers p.now s.basis) }
-    ensures feasible { IfOk result (λ s. IsFeasibleState p.now (B.standing s.basis)) }
+    ensures ready { IfOk result (λ s. IsReady p.now B.HasNumbers B.standing s.place) }
     ensures obeys { IfOk result (λ s. Obeys p.now options.now act.now (session_at B.standing session) (session_at B.standing s) (K.written listing.old) (K.written listing.new)) }
-    ensures fault { IfErr result (IsObeyFault p.now options.now act.now (session_at B.standing session).point (K.written listing.old) (K.written listing.new) (K.faults listing.old) (K.faults listing.new)) }
+    ensures fault { IfErr result (IsObeyFault p.now options.now act.now (session_at B.standing session).spot (K.written listing.old) (K.written listing.new) (K.faults listing.old) (K.faults listing.new)) }
 {
     match act {
         Statement::Run => obey_run(alloc, p, options, session, listing, steps),
@@ -163,18 +165,16 @@ fn obey_run<B: Basis, L: Ledger, K: Sink>(
     steps: &mut Steps<L>,
 ) -> Result<Session<B>, RunFault>
     requires plain { IsPlain p.now }
-    requires numbers { B.HasNumbers p.now session.basis }
-    requires feasible { IsFeasibleState p.now (B.standing session.basis) }
+    requires ready { IsReady p.now B.HasNumbers B.standing session.place }
     ensures later { K.faults listing.old ≤ K.faults listing.new }
     ensures quiet { K.quiet listing.new ≡ K.quiet listing.old }
     ensures calm { K.quiet listing.old ≡ true → K.faults listing.new ≡ K.faults listing.old }
-    ensures numbers { IfOk result (λ s. B.HasNumbers p.now s.basis) }
-    ensures feasible { IfOk result (λ s. IsFeasibleState p.now (B.standing s.basis)) }
+    ensures ready { IfOk result (λ s. IsReady p.now B.HasNumbers B.standing s.place) }
     ensures obeys { IfOk result (λ s. Obeys p.now options.now Statement.Run (session_at B.standing session) (session_at B.standing s) (K.written listing.old) (K.written listing.new)) }
-    ensures fault { IfErr result (IsObeyFault p.now options.now Statement.Run (session_at B.standing session).point (K.written listing.old) (K.written listing.new) (K.faults listing.old) (K.faults listing.new)) }
+    ensures fault { IfErr result (IsObeyFault p.now options.now Statement.Run (session_at B.standing session).spot (K.written listing.old) (K.written listing.new) (K.faults listing.old) (K.faults listing.new)) }
 {
     let (line, session) = run(alloc, p, options, session, steps)?;
-    let Ok(text) = halt_text(alloc, line, session.counts()) else {
+    let Ok(text) = halt_text(alloc, line, session.place.counts()) else {
         return Err(RunFault::NoMemory);
     };
     match write_all(listing, text.bytes()) {

@@ -14,8 +14,7 @@ returns-in_err-basis-clause-stops g c =
 pub acts-init : goal.acts-init
 acts-init g c =
     record {
-      numbers = c.in_ok-basis.ensures.numbers;
-      feasible = c.in_ok-basis.ensures.feasible;
+      ready = record { numbers = c.in_ok-basis.ensures.numbers; feasible = c.in_ok-basis.ensures.feasible; stage = c.in_ok-basis.ensures.first.stage };
       later = omega arith;
       quiet = refl;
       calm = λ h. refl;
@@ -27,8 +26,7 @@ acts-preserved g c =
     let inv = c.acts.invariant in
     let e = c.in_ok-session.ensures in
     record {
-      numbers = e.numbers;
-      feasible = e.feasible;
+      ready = e.ready;
       later = omega (arith, inv.later, e.later);
       quiet = e.quiet ∙ inv.quiet;
       calm = λ h. e.calm (inv.quiet ∙ h) ∙ inv.calm h;

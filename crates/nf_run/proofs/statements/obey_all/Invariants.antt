@@ -1,13 +1,11 @@
 use Rattle.std.proofs.Common.{◌≡◌, ◌≤◌, true, take}
-use Rattle.nf_simplex.specs.Standing.{IsFeasibleState}
-use Rattle.nf_run.specs.Steps.{HasListed, session_at}
+use Rattle.nf_run.specs.Steps.{HasListed, IsReady, session_at}
 use Rattle.nf_run.proofs.statements.obey_all.Given as goal
 
 abbrev pub invariant-acts : goal.invariant-acts
 invariant-acts g l =
     record {
-      numbers : g.B.Basis.HasNumbers l.p l.session.basis;
-      feasible : IsFeasibleState l.p (g.B.Basis.standing l.session.basis);
+      ready : IsReady l.p g.B.Basis.HasNumbers g.B.Basis.standing l.session.place;
       later : g.K.Sink.faults l.fn.listing ≤ g.K.Sink.faults l.listing;
       quiet : g.K.Sink.quiet l.listing ≡ g.K.Sink.quiet l.fn.listing;
       calm : g.K.Sink.quiet l.fn.listing ≡ true → g.K.Sink.faults l.listing ≡ g.K.Sink.faults l.fn.listing;

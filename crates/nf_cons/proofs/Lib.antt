@@ -1,0 +1,14 @@
+pub mod FaultFacts
+pub mod NameFacts
+pub mod ArcFacts
+pub mod NamingFacts
+pub mod TermFacts
+pub mod DenseFacts
+pub mod BoundFacts
+pub mod HeaderFacts
+pub mod MakingFacts
+pub mod EntryFacts
+pub mod ReadyFacts
+pub mod DenseWhole
+pub mod PlainFacts
+pub mod DueFacts

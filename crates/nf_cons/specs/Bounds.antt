@@ -1,0 +1,71 @@
+-- The cost and bounds of nonarc variables, and where bounds that cross are told.
+-- The columns of nonarc variables and the fault CrossedBounds of CONDATA rest on these words.
+use Rattle.std.specs.Prelude.{◌+◌, ◌-◌, ℕ, pos, Option, Some, None, List, length, get_or, if◌then◌else◌, unwrap_or}
+use Rattle.std.specs.Bool.{nat_lt}
+use Rattle.nf_frac.specs.declared.amount.Amount.{Amount}
+use Rattle.nf_cells.specs.declared.values.Bound.{Bound}
+use Rattle.nf_cells.specs.declared.values.Bound.TheVariants.{Finite, Infinite}
+use Rattle.nf_program.specs.declared.program.ProcOptions.{ProcOptions}
+use Rattle.nf_roles.specs.declared.fault.DataKind.TheVariants as kind
+use Rattle.nf_roles.specs.First.{first_below}
+use Rattle.nf_network.specs.Faults.{are_crossed}
+use Rattle.nf_network.specs.Network.{bound_or_infinite}
+use Rattle.nf_cons.specs.declared.places.Home.{Home}
+use Rattle.nf_cons.specs.declared.places.Place.TheVariants.{Column}
+use Rattle.nf_cons.specs.declared.places.RowFault.{RowFault}
+use Rattle.nf_cons.specs.declared.taken.Figures.{Figures}
+use Rattle.nf_cons.specs.Terms.{TermLists, gift_to}
+
+-- What a nonarc variable has where no row gives it: DEFCOST or 0, DEFMINFLOW or 0, DEFCAPACITY or no bound.
+abbrev pub defaults_of : ProcOptions → Figures
+defaults_of o = record {
+  cost = unwrap_or o.defcost (record { thousandths = pos 0 });
+  lower = unwrap_or o.defminflow (record { thousandths = pos 0 });
+  upper = bound_or_infinite o.defcapacity;
+}
+
+-- The amount or the bound of a gift, or else a default.
+abbrev pub amount_or : Amount → Option (Bound × ℕ) → Amount
+amount_or default None = default
+amount_or default (Some (Finite a, row)) = a
+amount_or default (Some (Infinite, row)) = default
+
+abbrev pub bound_or : Bound → Option (Bound × ℕ) → Bound
+bound_or default None = default
+bound_or default (Some g) = g.0
+
+-- The cost and bounds of a nonarc variable.
+abbrev pub figures_of : Figures → TermLists → ℕ → Figures
+figures_of d ls v = record {
+  cost = amount_or d.cost (gift_to v ls.costs);
+  lower = amount_or d.lower (gift_to v ls.lowers);
+  upper = bound_or d.upper (gift_to v ls.uppers);
+}
+
+-- The later of the rows of two gifts.
+abbrev pub later_row : Option (Bound × ℕ) → Option (Bound × ℕ) → Option ℕ
+later_row None None = None
+later_row None (Some h) = Some h.1
+later_row (Some g) None = Some g.1
+later_row (Some g) (Some h) = Some (if nat_lt g.1 h.1 then h.1 else g.1)
+
+-- The last row that gave a bound of a variable: each bound is given once.
+abbrev pub bound_row : TermLists → ℕ → Option ℕ
+bound_row ls v = later_row (gift_to v ls.lowers) (gift_to v ls.uppers)
+
+-- Bounds that cross are told in the last row that gave one, or else where the variable first stands.
+abbrev pub crossed_at : Home → Option ℕ → RowFault
+crossed_at home row = record { row = unwrap_or row home.row; fault = record { place = home.place; kind = kind.CrossedBounds } }
+
+abbrev pub no_home : Home
+no_home = record { row = 0; place = Column 0 }
+
+-- The fault of the bounds of nonarc variable k, from 0, where so many arcs come before.
+abbrev pub bound_fault_at : ℕ → Figures → List Home → TermLists → ℕ → Option RowFault
+bound_fault_at arcs d hs ls k =
+    let f = figures_of d ls (arcs + k) in
+    if are_crossed f.lower f.upper then Some (crossed_at (get_or hs k no_home) (bound_row ls (arcs + k))) else None
+
+-- The first fault of bounds, by the number of the variable.
+abbrev pub first_bound_fault : ℕ → Figures → List Home → TermLists → Option RowFault
+first_bound_fault arcs d hs ls = first_below (length hs) (bound_fault_at arcs d hs ls)

@@ -1,0 +1,13 @@
+pub mod Types
+pub mod Places
+pub mod Variables
+pub mod Terms
+pub mod TermsInside
+pub mod Bounds
+pub mod Constrained
+pub mod Dense
+pub mod Due
+pub mod ArcList
+pub mod Naming
+pub mod Passing
+pub mod Making

@@ -1,0 +1,45 @@
+-- Where a fault of CONDATA stands, and how it is told.
+-- The promise of `dense` and `sparse` to tell the first fault rests on these words.
+use Rattle.std.specs.Prelude.{◌≡◌, ◌⊎◌, ℕ, Bool, List, [], ◌∷◌, Option, Some, None, if◌then◌else◌, get_or}
+use Rattle.nf_table.specs.Grid.{Cells}
+use Rattle.nf_cells.specs.Names.{Name}
+use Rattle.nf_program.specs.declared.program.SetName.TheVariants as set
+use Rattle.nf_roles.specs.declared.fault.DataFault.{DataFault}
+use Rattle.nf_roles.specs.declared.fault.DataKind.{DataKind}
+use Rattle.nf_roles.specs.declared.fault.DataKind.TheVariants as kind
+use Rattle.nf_roles.specs.First.{or_else}
+use Rattle.nf_roles.specs.Roles.{RoleColumns, column_text}
+use Rattle.nf_cons.specs.declared.places.Place.{Place}
+use Rattle.nf_cons.specs.declared.places.Place.TheVariants.{OfRole, Column}
+use Rattle.nf_cons.specs.declared.places.PlacedFault.{PlacedFault}
+use Rattle.nf_cons.specs.declared.places.RowFault.{RowFault}
+
+-- A fault of a cell where a check fails.
+abbrev pub fault_if : Bool → Place → DataKind → Option PlacedFault
+fault_if fails place k = if fails then Some (record { place = place; kind = k }) else None
+
+-- The first fault that is there.
+abbrev pub first_of : List (Option PlacedFault) → Option PlacedFault
+first_of [] = None
+first_of (f ∷ fs) = or_else f (first_of fs)
+
+-- A fault with its row: rows count from 1, and 0 is the header.
+abbrev pub in_row : ℕ → Option PlacedFault → Option RowFault
+in_row n None = None
+in_row n (Some f) = Some (record { row = n; fault = f })
+
+-- An answer is the fault that is due, or want of memory.
+abbrev pub IsFaultOf : Option PlacedFault → PlacedFault → Type 0
+IsFaultOf due f = (f.kind ≡ kind.NoMemory) ⊎ (due ≡ Some f)
+
+abbrev pub IsRowFaultOf : Option RowFault → RowFault → Type 0
+IsRowFaultOf due f = (f.fault.kind ≡ kind.NoMemory) ⊎ (due ≡ Some f)
+
+-- How a column is told: by its cell in the header as it stands, or else by the role's first reserved name.
+abbrev pub place_text : RoleColumns → Cells → Place → Name
+place_text roles header (OfRole r) = column_text roles header r
+place_text roles header (Column c) = get_or header c []
+
+-- A fault by its data set, row, column and kind.
+abbrev pub told : RoleColumns → Cells → RowFault → DataFault
+told roles header f = record { set = set.Condata; row = f.row; column = place_text roles header f.fault.place; kind = f.fault.kind }

@@ -1,0 +1,74 @@
+//! The bounds of nonarc variables.
+ghost use Rattle.std.specs.Prelude.{◌≡◌, None, Some, MatchResult};
+ghost use Rattle.nf_network.specs.Faults.{are_crossed};
+ghost use Rattle.nf_network.specs.Network.{bound_or_infinite};
+ghost use Rattle.nf_cons.specs.Bounds.{crossed_at, defaults_of, first_bound_fault};
+ghost use Rattle.nf_cons.specs.Naming.{IsSound};
+
+use crate::constraints::Constraints;
+use crate::fault::{at, in_row};
+use crate::places::{Home, RowFault};
+use crate::taken::Figures;
+use nf_cells::Bound;
+use nf_frac::Amount;
+use nf_roles::DataKind;
+use nf_stmt::{Bound as OptionBound, ProcOptions};
+
+/// What a nonarc variable has where no row gives it: DEFCOST or 0, DEFMINFLOW or 0, DEFCAPACITY or no bound.
+pub fn defaults_of(options: &ProcOptions) -> Figures
+    ensures { result ≡ defaults_of options.now }
+{
+    let zero = Amount { thousandths: 0 };
+    Figures {
+        cost: options.defcost.unwrap_or(zero),
+        lower: options.defminflow.unwrap_or(zero),
+        upper: bound_or_infinite(options.defcapacity),
+    }
+}
+
+fn bound_or_infinite(bound: Option<OptionBound>) -> Bound
+    ensures { result ≡ bound_or_infinite bound }
+{
+    match bound {
+        Some(OptionBound::Finite(amount)) => Bound::Finite(amount),
+        Some(OptionBound::Infinite) | None => Bound::Infinite,
+    }
+}
+
+// Whether the upper bound is less than the lower bound.
+fn are_crossed(figures: Figures) -> bool
+    ensures { result ≡ are_crossed figures.lower figures.upper }
+{
+    match figures.upper {
+        Bound::Finite(upper) => upper.thousandths < figures.lower.thousandths,
+        Bound::Infinite => false,
+    }
+}
+
+// Where crossed bounds are told: in the last row that gave one, or else where the variable first stands.
+fn crossed_at(home: Home, bound_row: Option<u32>) -> RowFault
+    ensures { result ≡ crossed_at home bound_row }
+{
+    let row = match bound_row {
+        Some(row) => row,
+        None => home.row,
+    };
+    in_row(row, at(home.place, DataKind::CrossedBounds))
+}
+
+/// Looks for the first nonarc variable whose bounds cross.
+pub fn check_bounds(constraints: &Constraints, defaults: Figures) -> Result<(), RowFault>
+    requires sound { IsSound constraints.now.variables }
+    ensures { MatchResult result
+        (λ _. first_bound_fault constraints.now.variables.arcs.count defaults constraints.now.variables.homes constraints.now.terms ≡ None)
+        (λ f. first_bound_fault constraints.now.variables.arcs.count defaults constraints.now.variables.homes constraints.now.terms ≡ Some f) }
+{
+    for k in 0..constraints.variables.nonarcs() {
+        let variable = constraints.variables.arcs() + k;
+        if are_crossed(constraints.terms.figures(variable, defaults)) {
+            let home = constraints.variables.home(k);
+            return Err(crossed_at(home, constraints.terms.bound_row(variable)));
+        }
+    }
+    Ok(())
+}

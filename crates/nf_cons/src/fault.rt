@@ -1,0 +1,77 @@
+//! How a fault of CONDATA is told.
+ghost use Rattle.std.specs.Prelude.{◌≡◌, ◌⊎◌, [], get_or, length};
+ghost use Rattle.nf_roles.specs.Roles.{HasColumnsBelow};
+ghost use Rattle.nf_cons.specs.Places.{place_text, told};
+
+use crate::places::{Place, PlacedFault, RowFault};
+use nf_io::Text;
+use nf_roles::{DataFault, DataKind, Roles};
+use nf_stmt::{Role, SetName};
+use nf_table::Table;
+use std::alloc::Global;
+
+/// A fault of a cell.
+pub fn at(place: Place, kind: DataKind) -> PlacedFault
+    ensures { result ≡ record { place = place; kind = kind } }
+{
+    PlacedFault { place, kind }
+}
+
+/// A fault of a cell in the column of a role.
+pub fn at_role(role: Role, kind: DataKind) -> PlacedFault
+    ensures { result ≡ record { place = Place.OfRole role; kind = kind } }
+{
+    at(Place::OfRole(role), kind)
+}
+
+/// A fault of a row, which counts from 1; 0 is the header.
+pub fn in_row(row: u32, fault: PlacedFault) -> RowFault
+    ensures { result ≡ record { row = row; fault = fault } }
+{
+    RowFault { row, fault }
+}
+
+/// There was no memory.
+pub fn no_memory() -> RowFault
+    ensures { result.fault.kind ≡ DataKind.NoMemory }
+{
+    in_row(0, at_role(Role::Row, DataKind::NoMemory))
+}
+
+// How a column is told: by its cell in the header, or else by the role's first reserved name.
+fn place_text<'a>(place: Place, roles: &Roles, table: &'a Table) -> &'a [u8]
+    requires { HasColumnsBelow roles.now (length table.now.header) }
+    ensures { result.now ≡ place_text roles.now table.now.header place }
+{
+    match place {
+        Place::OfRole(role) => roles.column_text(table, role),
+        Place::Column(column) => header_cell(table, column),
+    }
+}
+
+// The cell of a column in the header.
+fn header_cell(table: &Table, column: u32) -> &[u8]
+    ensures { result.now ≡ get_or table.now.header column [] }
+{
+    if column < table.width() {
+        table.cell(0, column)
+    } else {
+        &[]
+    }
+}
+
+/// A fault of CONDATA, by its set, row, column and kind.
+pub fn told(alloc: Global, roles: &Roles, table: &Table, found: RowFault) -> DataFault
+    requires { HasColumnsBelow roles.now (length table.now.header) }
+    ensures { (result.kind ≡ DataKind.NoMemory) ⊎ (result ≡ told roles.now table.now.header found) }
+{
+    match Text::from_slice(alloc, place_text(found.fault.place, roles, table)) {
+        Ok(column) => DataFault {
+            set: SetName::Condata,
+            row: found.row,
+            column,
+            kind: found.fault.kind,
+        },
+        Err(_) => DataFault::no_memory(alloc, SetName::Condata),
+    }
+}

@@ -1,0 +1,35 @@
+//! The constraints of CONDATA: side rows and nonarc variables behind a network. Dense CONDATA is read here whole; what sparse
+//! CONDATA shares with it is public: the variables by name, what rows give them, bounds, and how all is added.
+#![tactic(auto)]
+
+mod arcs;
+mod bounds;
+mod constraints;
+mod dense_data;
+mod dense_rows;
+mod fault;
+mod found;
+mod gifts;
+mod header;
+mod making;
+mod places;
+mod row_type;
+mod taken;
+mod terms;
+mod types;
+mod variables;
+
+pub use arcs::{ArcNames, arc_names};
+pub use bounds::{check_bounds, defaults_of};
+pub use constraints::Constraints;
+pub use dense_data::dense;
+pub use fault::{at_role, in_row, no_memory, told};
+pub use found::NamedArc;
+pub use gifts::Gifts;
+pub use making::add_constraints;
+pub use places::{Home, Place, PlacedFault, RowFault};
+pub use row_type::{default_type, is_same_type, side_kind, type_cell};
+pub use taken::{Coefficient, Figures, MOST_COEFFICIENTS, MOST_CONSTRAINTS, SideRow, Term};
+pub use terms::Terms;
+pub use types::RowType;
+pub use variables::Variables;

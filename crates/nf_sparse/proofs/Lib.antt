@@ -1,0 +1,11 @@
+pub mod LineFacts
+pub mod GivenFacts
+pub mod SplitFacts
+pub mod StepFacts
+pub mod AfterFacts
+pub mod NextFacts
+pub mod TypedFacts
+pub mod ReadyLines
+pub mod ApartLines
+pub mod WholeLines
+pub mod SparseFacts
