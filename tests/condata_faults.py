@@ -1,5 +1,5 @@
 #!/usr/bin/env python3
-"""The built program on dense CONDATA sets: the first fault of each, and what a set without a fault gives.
+"""The built program on CONDATA sets, dense and sparse: the first fault of each, and what a set without a fault gives.
 
     python3 tests/condata_faults.py --netflow crates/netflow/out/netflow
 
@@ -13,6 +13,7 @@ import sys
 import tempfile
 
 DENSE = "proc netflow arcdata=arcs condata=cons;"
+SPARSE = "proc netflow arcdata=arcs condata=cons sparsecondata;"
 ARCS = "_FROM_,_TO_|a,b|b,a"
 # two arcs of one name, and one whose name has 65 bytes
 LONG = "n" * 32
@@ -82,11 +83,49 @@ CASES = [
     ("crossed bounds by defaults alone", DENSE[:-1] + " defminflow=3 defcapacity=3;", ARCS.replace("_TO_|a,b|b,a", "_TO_"), "z|1", (0, None)),
     ("crossed bounds where no row gives one", DENSE[:-1] + " defminflow=3 defcapacity=2;", "_FROM_,_TO_", "z|1", refused(0, "z", "CrossedBounds")),
     ("crossed bounds, by number", DENSE, ARCS, "_TYPE_,y,z|upperbd,-1,-1", refused(1, "y", "CrossedBounds")),
+    # the first round of sparse data
+    ("a line without ROW", SPARSE, ARCS, "_ROW_,_COLUMN_,_COEF_|,z,1", refused(1, "_ROW_", "BadName")),
+    ("a line with a bad ROW", SPARSE, ARCS, "_ROW_,_COLUMN_,_COEF_|r*,z,1", refused(1, "_ROW_", "BadName")),
+    ("an unknown type of a line", SPARSE, ARCS, "_ROW_,_COLUMN_,_COEF_,_TYPE_|r,a*,1,LEQ", refused(1, "_TYPE_", "UnknownKind")),
+    ("two types", SPARSE, ARCS, "_ROW_,_COLUMN_,_COEF_,_TYPE_|r,z,1,LE|s,z,1,GE|r,y,1,GE", refused(3, "_TYPE_", "TwoKinds")),
+    ("one type in two spellings", SPARSE, ARCS, "_ROW_,_COLUMN_,_COEF_,_TYPE_|r,z,1,LE|r,y,x,<=", refused(2, "_COEF_", "Amount")),
+    ("a variable that is no name", SPARSE, ARCS, "_ROW_,_COLUMN_,_COEF_|r,z*,x", refused(1, "_COLUMN_", "BadName")),
+    ("the excess node in COLUMN", SPARSE, ARCS, "_ROW_,_COLUMN_,_COEF_|r,_EXCESS_,x", refused(1, "_COLUMN_", "ReservedName")),
+    ("a name of two arcs in COLUMN", SPARSE, SHARED, "_ROW_,_COLUMN_,_COEF_|r,a_b_c,x", refused(1, "_COLUMN_", "AmbiguousName")),
+    ("the name of an arc with 65 bytes", SPARSE, SHARED, "_ROW_,_COLUMN_,_COEF_|r,%s,x" % LONG_NAME, refused(1, "_COEF_", "Amount")),
+    ("names of variables are compared by case", SPARSE, ARCS, "_ROW_,_COLUMN_,_COEF_,_TYPE_|r,A_B,1,cost|r,a_b,1,cost", refused(2, "_COLUMN_", "ArcHere")),
+    ("5,001 nonarc variables of lines", SPARSE, ARCS, "_ROW_,_COLUMN_,_COEF_|" + many(5001, "r,z%(n)d,1"), refused(5001, "_COLUMN_", "LimitPassed")),
+    ("COLUMN before COEF", SPARSE, ARCS, "_ROW_,_COLUMN_,_COEF_|r,z*,x", refused(1, "_COLUMN_", "BadName")),
+    ("a coefficient that is no amount", SPARSE, ARCS, "_ROW_,_COLUMN_,_COEF_|r,z,-INF", refused(1, "_COEF_", "Amount")),
+    ("a coefficient without COLUMN is checked", SPARSE, ARCS, "_ROW_,_COLUMN_,_COEF_|r,,x", refused(1, "_COEF_", "Amount")),
+    ("a coefficient twice", SPARSE, ARCS, "_ROW_,_COLUMN_,_COEF_|r,a_b,0|r,a_b,1", refused(2, "_COLUMN_", "RepeatedCoefficient")),
+    ("a coefficient twice in data of one constraint", SPARSE, ARCS, "_ROW_,_COLUMN_,_COEF_,_TYPE_|c,z,1,cost|c,z,1,", refused(2, "_COLUMN_", "RepeatedCoefficient")),
+    ("a missing coefficient is none", SPARSE, ARCS, "_ROW_,_COLUMN_,_COEF_|r,z,.|r,z,1|r,z,x", refused(3, "_COEF_", "Amount")),
+    ("a right side that is no amount, of a line", SPARSE, ARCS, "_ROW_,_COLUMN_,_COEF_,_RHS_|r,z,1,x", refused(1, "_RHS_", "Amount")),
+    ("two right sides", SPARSE, ARCS, "_ROW_,_COLUMN_,_COEF_,_RHS_|r,z,1,4|r,y,1,5", refused(2, "_RHS_", "TwoRightSides")),
+    ("one right side twice", SPARSE, ARCS, "_ROW_,_COLUMN_,_COEF_,_RHS_|r,z,1,4|r,y,1,4.00|r,x,1,x", refused(3, "_RHS_", "Amount")),
+    ("`_RHS_` in COLUMN with INF", SPARSE, ARCS, "_ROW_,_COLUMN_,_COEF_|r,_RHS_,INF", refused(1, "_COEF_", "Amount")),
+    ("`_RHS_` in COLUMN gives another right side", SPARSE, ARCS, "_ROW_,_COLUMN_,_COEF_,_RHS_|r,z,1,4|r,_RHS_,5,4", refused(2, "_COEF_", "TwoRightSides")),
+    ("`_RHS_` in COLUMN counts before RHS", SPARSE, ARCS, "_ROW_,_COLUMN_,_COEF_,_RHS_|r,_RHS_,5,4", refused(1, "_RHS_", "TwoRightSides")),
+    ("`_rhs_` is a variable", SPARSE, ARCS, "_ROW_,_COLUMN_,_COEF_|r,_rhs_,1|r,_rhs_,1", refused(2, "_COLUMN_", "RepeatedCoefficient")),
+    ("columns by their statements", SPARSE + " row r; column v; coef c;", ARCS, "c,v,r|x,z,k", refused(1, "c", "Amount")),
+    # the second round
+    ("INF in a constraint, when types are known", SPARSE, ARCS, "_ROW_,_COLUMN_,_COEF_,_TYPE_|r,z,INF,|s,y,1,cost|s,y*,1,", refused(3, "_COLUMN_", "BadName")),
+    ("INF in a line of no bound", SPARSE, ARCS, "_ROW_,_COLUMN_,_COEF_,_TYPE_|r,z,INF,|r,y,1,LE", refused(1, "_COEF_", "Amount")),
+    ("INF without COLUMN", SPARSE, ARCS, "_ROW_,_COLUMN_,_COEF_|r,,INF", refused(1, "_COEF_", "Amount")),
+    ("INF as an upper bound that a later line tells", SPARSE, ARCS, "_ROW_,_COLUMN_,_COEF_,_TYPE_|u,z,INF,|u,a_b,1,capac", refused(2, "_COLUMN_", "ArcHere")),
+    ("a cost of an arc in a line", SPARSE, ARCS, "_ROW_,_COLUMN_,_COEF_,_TYPE_|c,z,1,cost|c,a_b,1,", refused(2, "_COLUMN_", "ArcHere")),
+    ("a cost in two constraints", SPARSE, ARCS, "_ROW_,_COLUMN_,_COEF_,_TYPE_|c,z,1,cost|d,z,1,COST", refused(2, "_COLUMN_", "RepeatedCoefficient")),
+    ("the first round before the second", SPARSE, ARCS, "_ROW_,_COLUMN_,_COEF_,_TYPE_|c,a_b,1,cost|c,z,x,", refused(2, "_COEF_", "Amount")),
+    ("constraint 501 of lines", SPARSE, ARCS, "_ROW_,_COLUMN_,_COEF_|" + many(501, "r%(n)d,z,1"), refused(501, "_ROW_", "LimitPassed")),
+    ("data is no constraint of lines", SPARSE, ARCS, "_ROW_,_COLUMN_,_COEF_,_TYPE_|" + many(500, "r%(n)d,z,1,") + "|c,a_b,1,cost", refused(501, "_COLUMN_", "ArcHere")),
+    ("crossed bounds, at COLUMN of the last line", SPARSE, ARCS, "_ROW_,_COLUMN_,_COEF_,_TYPE_|u,z,1,upperbd|l,z,2,lowerbd|c,z,1,cost", refused(2, "_COLUMN_", "CrossedBounds")),
+    ("crossed bounds, at the first line that names it", SPARSE[:-1] + " defminflow=3 defcapacity=2;", "_FROM_,_TO_", "_ROW_,_COLUMN_,_COEF_|r,y,.|r,y,1", refused(1, "_COLUMN_", "CrossedBounds")),
     # no fault
     ("a missing cell is no coefficient", DENSE, ARCS, "a_b,_TYPE_,_RHS_|.,LE,7", (0, None)),
     ("reserved columns of sparse data are none of dense data", DENSE, ARCS, "z,_COEF_,_COLUMN_|1,x,y", (0, None)),
     ("bounds that meet", DENSE, ARCS, "_TYPE_,z|upperbd,2|lowerbd,2", (0, None)),
-    ("a table without rows", DENSE, ARCS, "_ROW_,a_b", (0, None)),
+    ("a table without rows", SPARSE, ARCS, "_ROW_,_COLUMN_,_COEF_", (0, None)),
 ]
 
 

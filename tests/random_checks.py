@@ -992,8 +992,6 @@ def read_program(text):
         refuse(1048576, "TooLong")
     statements = Statements(text)
     given, roles = statements.proc(), statements.behind()
-    if "sparsecondata" in given:
-        refuse(0, "Form")
     names = [given[name][1].lower() if name in given else None for name in ("arcdata", "nodedata", "condata", "certdata")]
     return names, {name: value.encode("latin-1").strip(b"'\"") for name, (_, value) in given.items()}, roles
 

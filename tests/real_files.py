@@ -102,7 +102,7 @@ ONE_CHANGE = [
     ("program.txt", "certificate;", "certificate defcontype=ge;", *ACCEPTED),
     ("program.txt", "certificate;", "certificate condata=cons;", 7, "ABSENT cons"),
     ("program.txt", "certificate;", "certificate condata=nodes;", 4, "DATA REFUSED CONDATA ROW 1 COLUMN _NODE_: Amount"),
-    ("program.txt", "certificate;", "certificate condata=nodes sparsecondata;", 3, "PROGRAM REFUSED AT 0: Form"),
+    ("program.txt", "certificate;", "certificate condata=nodes sparsecondata;", 4, "DATA REFUSED CONDATA: MissingRole ROW"),
     ("program.txt", "certificate;", "certificate sparsecondata;", 3, "PROGRAM REFUSED AT 75: MissingOption"),
     ("program.txt", "certificate;\n", "certificate; cost c;\n", 4, "DATA REFUSED ARCDATA: NoColumn c"),
     ("program.txt", "certificate;\n", "certificate; capac _capac_; supdem '_supdem_';\n", *ACCEPTED),

@@ -9,15 +9,14 @@ use Rattle.nf_program.specs.declared.program.Command.{Command}
 use Rattle.nf_program.specs.declared.program.Program.{Program}
 use Rattle.nf_program.specs.declared.program.SetName.{SetName}
 use Rattle.nf_program.specs.declared.program.SetName.TheVariants.{Arcdata, Nodedata, Condata}
-use Rattle.nf_roles.specs.declared.columns.SetKind.TheVariants.{Arcs, Nodes, Dense}
+use Rattle.nf_roles.specs.declared.columns.SetKind.TheVariants.{Arcs, Nodes}
 use Rattle.nf_roles.specs.declared.fault.DataFault.{DataFault}
 use Rattle.nf_roles.specs.declared.fault.RoleFault.{RoleFault}
 use Rattle.nf_roles.specs.Assigned.{roles_due}
 use Rattle.nf_roles.specs.Roles.{RoleColumns}
 use Rattle.nf_network.specs.Network.{Network, network_due, no_roles, no_table}
-use Rattle.nf_cons.specs.Due.{dense_due}
 use Rattle.nf_run.specs.Setting.{IsPlain}
-use Rattle.netflow.specs.ProblemOf.{Refusal, Sets as ProblemSets, OfData, OfTable, header_in, in_data, in_roles, in_set, in_size, most_rows, problem_in, problem_of, size_fault, table_of, then_with, where_there, with_cons, with_nodes}
+use Rattle.netflow.specs.ProblemOf.{Refusal, Sets as ProblemSets, OfData, OfTable, header_in, in_data, in_roles, in_set, in_size, layout, most_rows, problem_in, problem_of, size_fault, table_of, then_with, where_there, with_cons, with_constraints, with_nodes}
 use Rattle.netflow.specs.Data.{AreTables, Grids, IsTableOrNone, Sets, data_of}
 
 -- ---- what follows an answer
@@ -66,8 +65,8 @@ no-roles q (Err e) next s f none h = cc h
 no-cons : (p : Program) (ar : RoleColumns) (a : Grid) (nr : RoleColumns) (t : Grid) (cons : Option Grid) (s : SetName) (f : TableFault) → with_cons p ar a nr t cons ≡ Err (OfTable s f) → ⊥
 no-cons p ar a nr t None s f h = no-data (network_due p.proc ar a nr t) in_size s f (λ n k. no-size n s f k) h
 no-cons p ar a nr t (Some g) s f h =
-    no-roles Condata (roles_due Dense g.header [] p.roles) _ s f
-    (λ r k. no-data (network_due p.proc ar a nr t) _ s f (λ n l. no-data (dense_due p.proc n r g) in_size s f (λ m j. no-size m s f j) l) k) h
+    no-roles Condata (roles_due (layout p.proc) g.header [] p.roles) _ s f
+    (λ r k. no-data (network_due p.proc ar a nr t) _ s f (λ n l. no-data (with_constraints p.proc n r g) in_size s f (λ m j. no-size m s f j) l) k) h
 
 no-nodes : (p : Program) (ar : RoleColumns) (a : Grid) (nodes cons : Option Grid) (s : SetName) (f : TableFault) → with_nodes p ar a nodes cons ≡ Err (OfTable s f) → ⊥
 no-nodes p ar a None cons s f h = no-cons p ar a no_roles no_table cons s f h
@@ -100,9 +99,9 @@ plain_sized d n h =
 plain_cons : (p : Program) (ar : RoleColumns) (a : Grid) (nr : RoleColumns) (t : Grid) (cons : Option Grid) (n : Network) → with_cons p ar a nr t cons ≡ Ok n → IsPlain n.program
 plain_cons p ar a nr t None n h = plain_sized (in_data (network_due p.proc ar a nr t)) n h
 plain_cons p ar a nr t (Some g) n h =
-    let r = then_ok (in_roles Condata (roles_due Dense g.header [] p.roles)) _ n h in
+    let r = then_ok (in_roles Condata (roles_due (layout p.proc) g.header [] p.roles)) _ n h in
     let d = then_ok (in_data (network_due p.proc ar a nr t)) _ n r.2 in
-    plain_sized (in_data (dense_due p.proc d.0 r.0 g)) n d.2
+    plain_sized (in_data (with_constraints p.proc d.0 r.0 g)) n d.2
 
 plain_with : (p : Program) (ar : RoleColumns) (a : Grid) (nodes cons : Option Grid) (n : Network) → with_nodes p ar a nodes cons ≡ Ok n → IsPlain n.program
 plain_with p ar a None cons n h = plain_cons p ar a no_roles no_table cons n h

@@ -7,9 +7,8 @@ use Rattle.nf_prob.specs.declared.cert.Cert.{Cert}
 use Rattle.nf_cert.specs.Reading.{cert_read}
 use Rattle.nf_prob.specs.Labels.{LabelList}
 use Rattle.nf_network.specs.Network.{Network, network_due}
-use Rattle.nf_cons.specs.Due.{dense_due}
-use Rattle.netflow.specs.ProblemOf.{Refusal as ProblemRefusal, OfData, OfRoles, OfTable, header_in, in_data, in_roles, in_size, most_rows, problem_in, problem_of, then_with, with_cons, with_nodes}
-use Rattle.nf_roles.specs.declared.columns.SetKind.TheVariants.{Arcs, Dense}
+use Rattle.netflow.specs.ProblemOf.{Refusal as ProblemRefusal, OfData, OfRoles, OfTable, header_in, in_data, in_roles, in_size, layout, most_rows, problem_in, problem_of, then_with, with_cons, with_constraints, with_nodes}
+use Rattle.nf_roles.specs.declared.columns.SetKind.TheVariants.{Arcs}
 use Rattle.nf_roles.specs.declared.fault.DataFault.{DataFault}
 use Rattle.nf_roles.specs.declared.fault.DataKind.TheVariants as kind
 use Rattle.nf_roles.specs.declared.fault.RoleFault.{RoleFault}
@@ -184,7 +183,7 @@ lent-header (Some t) = refl
 
 -- the problem of its tables, behind the roles of ARCDATA
 module _ (p : Program) (a : Grid) (nodes : Option Grid) (o : Option (Bor Grid)) where
-  abbrev arc-roles : Result RoleColumns ProblemRefusal
+  arc-roles : Result RoleColumns ProblemRefusal
   arc-roles = in_roles Arcdata (roles_due Arcs a.header (header_of o) p.roles)
 
   here-then : (P : Result Network ProblemRefusal → Type 0) → P (then_with arc-roles (λ x. with_nodes p x a nodes (option_copied o))) → P (problem_in p a nodes (option_copied o))
@@ -215,26 +214,23 @@ network-posed r n h = (n, ap in_data h, refl)
 
 -- the problem with CONDATA, behind the roles of ARCDATA and NODEDATA
 module _ (p : Program) (ar : RoleColumns) (a : Grid) (nr : RoleColumns) (t cons : Grid) where
-  abbrev cons-roles : Result RoleColumns ProblemRefusal
-  cons-roles = in_roles Condata (roles_due Dense cons.header [] p.roles)
+  cons-roles : Result RoleColumns ProblemRefusal
+  cons-roles = in_roles Condata (roles_due (layout p.proc) cons.header [] p.roles)
 
-  abbrev network : Result Network DataFault
+  network : Result Network DataFault
   network = network_due p.proc ar a nr t
 
-  abbrev added : RoleColumns → Network → Result Network ProblemRefusal
-  added r n = in_data (dense_due p.proc n r cons)
-
-  abbrev behind : RoleColumns → Result Network ProblemRefusal
-  behind r = then_with (in_data network) (λ n. then_with (added r n) in_size)
+  added : RoleColumns → Network → Result Network ProblemRefusal
+  added r n = in_data (with_constraints p.proc n r cons)
 
   pub cons-stops-first : (s : Stop) → IsStopOf cons-roles s → IsStopOf (with_cons p ar a nr t (Some cons)) s
-  cons-stops-first s h = first-stop cons-roles behind s h
+  cons-stops-first s h = first-stop cons-roles _ s h
 
   pub cons-stops-network : (r : RoleColumns) (s : Stop) → cons-roles ≡ Ok r → IsStopOf (in_data network) s → IsStopOf (with_cons p ar a nr t (Some cons)) s
-  cons-stops-network r s h k = next-stop cons-roles r behind s h (first-stop (in_data network) (λ n. then_with (added r n) in_size) s k)
+  cons-stops-network r s h k = next-stop cons-roles r _ s h (first-stop (in_data network) _ s k)
 
   pub cons-stops : (r : RoleColumns) (n : Network) (s : Stop) → cons-roles ≡ Ok r → network ≡ Ok n → IsStopOf (then_with (added r n) in_size) s → IsStopOf (with_cons p ar a nr t (Some cons)) s
-  cons-stops r n s h k l = next-stop cons-roles r behind s h (next-stop (in_data network) n (λ m. then_with (added r m) in_size) s (ap in_data k) l)
+  cons-stops r n s h k l = next-stop cons-roles r _ s h (next-stop (in_data network) n _ s (ap in_data k) l)
 
   pub cons-posed : (r : RoleColumns) (n : Network) (q : LinearProgram) → cons-roles ≡ Ok r → network ≡ Ok n → IsPosed (then_with (added r n) in_size) q → IsPosed (with_cons p ar a nr t (Some cons)) q
-  cons-posed r n q h k l = next-posed cons-roles r behind q h (next-posed (in_data network) n (λ m. then_with (added r m) in_size) q (ap in_data k) l)
+  cons-posed r n q h k l = next-posed cons-roles r _ q h (next-posed (in_data network) n _ q (ap in_data k) l)

@@ -9,7 +9,8 @@ use Rattle.nf_program.specs.declared.program.Program.{Program}
 use Rattle.nf_program.specs.declared.program.ProcOptions.{ProcOptions}
 use Rattle.nf_program.specs.declared.program.SetName.{SetName}
 use Rattle.nf_program.specs.declared.program.SetName.TheVariants.{Arcdata, Nodedata, Condata, Proc}
-use Rattle.nf_roles.specs.declared.columns.SetKind.TheVariants.{Arcs, Nodes, Dense}
+use Rattle.nf_roles.specs.declared.columns.SetKind.{SetKind}
+use Rattle.nf_roles.specs.declared.columns.SetKind.TheVariants.{Arcs, Nodes, Dense, Sparse}
 use Rattle.nf_roles.specs.declared.fault.DataFault.{DataFault}
 use Rattle.nf_roles.specs.declared.fault.DataKind.TheVariants.{LimitPassed}
 use Rattle.nf_roles.specs.declared.fault.RoleFault.{RoleFault}
@@ -17,6 +18,7 @@ use Rattle.nf_roles.specs.Assigned.{roles_due}
 use Rattle.nf_roles.specs.Roles.{RoleColumns}
 use Rattle.nf_network.specs.Network.{Network, network_due, no_roles, no_table}
 use Rattle.nf_cons.specs.Due.{dense_due}
+use Rattle.nf_sparse.specs.SparseDue.{sparse_due}
 
 -- The bytes of the data sets that a program has.
 pub record Sets : Type 0 where
@@ -70,14 +72,22 @@ size_fault = record { set = Proc; row = 0; column = codes "ROWS"; kind = LimitPa
 abbrev pub in_size : Network → Result Network Refusal
 in_size n = if nat_lt most_rows (length n.program.rows) then Err (OfData size_fault) else Ok n
 
--- The network of ARCDATA and NODEDATA, whose columns have these roles, with the constraints of dense CONDATA, which may be left
+-- CONDATA is sparse under SPARSECONDATA, and else dense.
+abbrev pub layout : ProcOptions → SetKind
+layout o = if o.sparsecondata then Sparse else Dense
+
+-- A network with the constraints of CONDATA, whose columns have these roles.
+abbrev pub with_constraints : ProcOptions → Network → RoleColumns → Grid → Result Network DataFault
+with_constraints o n roles cons = if o.sparsecondata then sparse_due o n roles cons else dense_due o n roles cons
+
+-- The network of ARCDATA and NODEDATA, whose columns have these roles, with the constraints of CONDATA, which may be left
 -- out: first its roles are told, then the data of the network, then its data.
 abbrev pub with_cons : Program → RoleColumns → Grid → RoleColumns → Grid → Option Grid → Result Network Refusal
 with_cons p arc_roles arcs node_roles nodes None = then_with (in_data (network_due p.proc arc_roles arcs node_roles nodes)) in_size
 with_cons p arc_roles arcs node_roles nodes (Some cons) =
-    then_with (in_roles Condata (roles_due Dense cons.header [] p.roles)) (λ cons_roles.
+    then_with (in_roles Condata (roles_due (layout p.proc) cons.header [] p.roles)) (λ cons_roles.
     then_with (in_data (network_due p.proc arc_roles arcs node_roles nodes)) (λ n.
-    then_with (in_data (dense_due p.proc n cons_roles cons)) in_size))
+    then_with (in_data (with_constraints p.proc n cons_roles cons)) in_size))
 
 -- The same where NODEDATA may be left out: it then has no header and no rows.
 abbrev pub with_nodes : Program → RoleColumns → Grid → Option Grid → Option Grid → Result Network Refusal

@@ -15,14 +15,13 @@ pub record SetNames : Type 0 where
   pub condata : Option (List ℕ)
   pub certdata : List ℕ
 
--- `check` takes a program whose PROC names ARCDATA= and CERTDATA= and has no SPARSECONDATA. WARM, CONIN=, DUALIN=, SESSIONDATA=, output options and
+-- `check` takes a program whose PROC names ARCDATA= and CERTDATA=. WARM, CONIN=, DUALIN=, SESSIONDATA=, output options and
 -- session options may stand there: they are not looked at. Of acts it has a QUIT or none, by the grammar.
 pub record StandsForCheck (p : Program) (n : SetNames) : Type 0 where
   pub arcdata : p.proc.arcdata ≡ Some n.arcdata
   pub nodedata : p.proc.nodedata ≡ n.nodedata
   pub condata : p.proc.condata ≡ n.condata
   pub certdata : p.proc.certdata ≡ Some n.certdata
-  pub dense : p.proc.sparsecondata ≡ false
 
 -- PROC asks for saved tables, or for outputs other than CERTOUT=.
 abbrev pub asks_tables : ProcOptions → Bool
@@ -35,7 +34,7 @@ abbrev pub asks_more : SessionOptions → Bool
 asks_more o =
     not (o.pause1 == 0) || not (o.pause2 == 0) || o.feasiblepause1 || o.feasiblepause2 || o.endpause1 || o.future1 || o.future2
 
--- `run` takes a program whose PROC names ARCDATA=, has no SPARSECONDATA, has of outputs CERTOUT= alone and of session options MAXIT1=, MAXIT2=,
+-- `run` takes a program whose PROC names ARCDATA=, has of outputs CERTOUT= alone and of session options MAXIT1=, MAXIT2=,
 -- PRICETYPE1= and PRICETYPE2= alone, and which has of acts RUN and QUIT alone. CERTDATA= may stand there: it is not looked
 -- at.
 pub record StandsForRun (p : Program) (n : SetNames) : Type 0 where
@@ -43,7 +42,6 @@ pub record StandsForRun (p : Program) (n : SetNames) : Type 0 where
   pub nodedata : p.proc.nodedata ≡ n.nodedata
   pub condata : p.proc.condata ≡ n.condata
   pub certdata : n.certdata ≡ []
-  pub dense : p.proc.sparsecondata ≡ false
   pub tables : asks_tables p.proc ≡ false
   pub session : asks_more p.proc.session ≡ false
   pub acts : are_standing p.acts ≡ true

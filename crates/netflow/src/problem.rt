@@ -1,13 +1,13 @@
 //! The problem of a program and the tables of its data sets.
-ghost use Rattle.std.specs.Prelude.{◌≡◌, [], Some, Ok, Err, IfOk, IfErr, IfSome, length};
+ghost use Rattle.std.specs.Prelude.{◌≡◌, ◌⊎◌, [], Some, Ok, Err, IfOk, IfErr, IfSome, MatchResult, length};
 ghost use Rattle.std.specs.Option.{is_some, option_copied};
 ghost use Rattle.nf_frac.specs.Amounts.{IsAmount};
 ghost use Rattle.nf_prob.specs.Labels.{LabelList};
 ghost use Rattle.nf_network.specs.Network.{network_due, roles_or_none, table_or_none};
 ghost use Rattle.nf_roles.specs.Assigned.{header_of, roles_due};
 ghost use Rattle.nf_roles.specs.Roles.{HasColumnsBelow};
-ghost use Rattle.nf_cons.specs.Due.{IsNetworkOf, dense_due};
-ghost use Rattle.netflow.specs.ProblemOf.{in_data, in_roles, in_size, problem_in, with_cons, with_nodes};
+ghost use Rattle.nf_cons.specs.Due.{IsNetworkOf};
+ghost use Rattle.netflow.specs.ProblemOf.{in_data, in_roles, in_size, layout, problem_in, with_cons, with_constraints, with_nodes};
 ghost use Rattle.netflow.specs.Steps.{IsPosed, IsStopOf, stop_of_data, stop_of_roles, too_large};
 
 use crate::refusal::{Refusal, Stop};
@@ -16,6 +16,7 @@ use nf_io::Text;
 use nf_network::network;
 use nf_prob::{Labels, Problem, ProblemBuilder};
 use nf_roles::{DataFault, DataKind, RoleFault, Roles, SetKind, assign};
+use nf_sparse::sparse;
 use nf_stmt::{ProcOptions, Program, SetName};
 use nf_table::Table;
 use std::alloc::Global;
@@ -117,10 +118,28 @@ fn pose_all(
     ensures stops { IfErr result (IsStopOf (with_cons program.now roles.now arcs.now (roles_or_none node_roles.entry) (table_or_none nodes.entry) (Some cons.now))) }
 {
     let options = &program.proc;
-    let cons_roles = roles_in(alloc, program, SetName::Condata, SetKind::Dense, cons, None)?;
+    let cons_roles = roles_in(
+        alloc,
+        program,
+        SetName::Condata,
+        layout(options),
+        cons,
+        None,
+    )?;
     let (builder, labels) = build(alloc, options, roles, arcs, node_roles, nodes)?;
     let whole = constrain(alloc, options, builder, labels, &cons_roles, cons)?;
     sized(alloc, whole)
+}
+
+// How CONDATA is laid out.
+fn layout(options: &ProcOptions) -> SetKind
+    ensures { result ≡ layout options.now }
+{
+    if options.sparsecondata {
+        SetKind::Sparse
+    } else {
+        SetKind::Dense
+    }
 }
 
 // The roles of the columns of a table. ARCDATA may have its ID columns in the table of CONDATA.
@@ -174,7 +193,7 @@ fn build(
     }
 }
 
-// The network with the constraints of dense CONDATA, whose columns have these roles. Its labels are let go.
+// The network with the constraints of CONDATA, whose columns have these roles. Its labels are let go.
 fn constrain(
     alloc: Global,
     options: &ProcOptions,
@@ -185,13 +204,37 @@ fn constrain(
 ) -> Result<ProblemBuilder, Stop>
     requires network { IsNetworkOf options.now (record { program = builder; labels = labels }) }
     requires columns { HasColumnsBelow roles.now (length cons.now.header) }
-    ensures ok { IfOk result (IsPosed (in_data (dense_due options.now (record { program = builder; labels = labels }) roles.now cons.now))) }
-    ensures stops { IfErr result (IsStopOf (in_data (dense_due options.now (record { program = builder; labels = labels }) roles.now cons.now))) }
+    ensures ok { IfOk result (IsPosed (in_data (with_constraints options.now (record { program = builder; labels = labels }) roles.now cons.now))) }
+    ensures stops { IfErr result (IsStopOf (in_data (with_constraints options.now (record { program = builder; labels = labels }) roles.now cons.now))) }
 {
     let (mut builder, mut labels) = (builder, labels);
-    match dense(alloc, &mut builder, &mut labels, roles, cons, options) {
+    match add_constraints(alloc, options, &mut builder, &mut labels, roles, cons) {
         Ok(()) => Ok(builder),
         Err(fault) => Err(stop_of_data(fault)),
+    }
+}
+
+// Adds the constraints of CONDATA as it is laid out.
+fn add_constraints(
+    alloc: Global,
+    options: &ProcOptions,
+    builder: &mut ProblemBuilder,
+    labels: &mut Labels,
+    roles: &Roles,
+    cons: &Table,
+) -> Result<(), DataFault>
+    requires network { IsNetworkOf options.now (record { program = builder.old; labels = labels.old }) }
+    requires columns { HasColumnsBelow roles.now (length cons.now.header) }
+    ensures answer { MatchResult result
+        (λ _. with_constraints options.now (record { program = builder.old; labels = labels.old }) roles.now cons.now
+        ≡ Ok (record { program = builder.new; labels = labels.new }))
+        (λ e. (e.kind ≡ DataKind.NoMemory)
+        ⊎ (with_constraints options.now (record { program = builder.old; labels = labels.old }) roles.now cons.now ≡ Err e)) }
+{
+    if options.sparsecondata {
+        sparse(alloc, builder, labels, roles, cons, options)
+    } else {
+        dense(alloc, builder, labels, roles, cons, options)
     }
 }
 

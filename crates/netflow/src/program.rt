@@ -67,9 +67,6 @@ pub(crate) fn names_for_check(program: &Program) -> Option<SetNames<'_>>
     ensures { MatchOption result ((n : Named) → StandsForCheck program.now n → ⊥) (λ n. StandsForCheck program.now (names_of n)) }
 {
     let p = &program.proc;
-    if p.sparsecondata {
-        return None;
-    }
     let (arcdata, certdata) = (text_of(&p.arcdata), text_of(&p.certdata));
     let (Some(arcdata), Some(certdata)) = (arcdata, certdata) else {
         return None;
@@ -117,7 +114,7 @@ pub(crate) fn names_for_run(program: &Program) -> Option<SetNames<'_>>
     ensures { MatchOption result ((n : Named) → StandsForRun program.now n → ⊥) (λ n. StandsForRun program.now (names_of n)) }
 {
     let p = &program.proc;
-    if p.sparsecondata || asks_tables(p) || asks_more(&p.session) {
+    if asks_tables(p) || asks_more(&p.session) {
         return None;
     }
     if !are_standing(program.acts.items()) {
