@@ -8,7 +8,7 @@ pub const MOST_NAME_BYTES: usize = 32;
 fn is_name_byte_at(byte: u8) -> bool
     ensures { result ≡ is_name_byte byte }
 {
-    byte.is_ascii_alphanumeric() || byte == b'_' || byte == b' ' || byte == b'.' || byte == b'-'
+    matches!(byte, b'a'..=b'z' | b'0'..=b'9' | b' ' | b'A'..=b'Z' | b'_' | b'-' | b'.')
 }
 
 /// Whether bytes are a name: 1 to 32 ASCII letters, digits, `_`, spaces, points and `-`.

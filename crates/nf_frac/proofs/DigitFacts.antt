@@ -1,16 +1,19 @@
 -- Digits: what `parse` reads of them, and the two sides of a mark.
-use Rattle.std.proofs.Common.{◌≡◌, ℕ, ◌+◌, ◌-◌, ◌^◌, ◌<◌, ◌≤◌, Bool, true, cond, nat_lt, List, length, take, drop, Option, None, Some, SomeIff, Result, Err, sym, ◌∙◌, ap, subst, arith, rules, not}
+use Rattle.std.proofs.Common.{◌≡◌, ℕ, ◌+◌, ◌-◌, ◌*◌, ◌^◌, ◌<◌, ◌≤◌, Bool, true, false, cond, nat_lt, List, length, get_or, take, drop, Option, None, Some, Result, Err, refl, sym, ◌∙◌, ap, subst, arith, rules, not}
 use Rattle.std.specs.List.{list_all, position_or_len, after_first, before_first}
-use Rattle.std.specs.Char.{is_ascii_digit}
+use Rattle.std.specs.Char.{is_ascii_digit, digit_value}
 use Rattle.std.specs.Str.{IsUtf8}
 use Rattle.std.specs.Str.Parse.{digits_value, ParsesUnsigned}
+use Rattle.std.proofs.lemmas.Int.Digits.{digits_value_more}
 use Rattle.std.specs.Result.{OkIff}
 use Rattle.std.proofs.lemmas.Str.{IsUtf8-from_ascii}
 use Rattle.std.proofs.lemmas.Fmt.{IsAscii-from_digits}
-use Rattle.std.proofs.lemmas.Str.Parse.{IsNumeralModel, numerals_by_value, parse_digits, digits_value_short}
+use Rattle.std.proofs.lemmas.Str.Parse.{IsNumeralModel, numerals_by_value, parse_digits, digits_value_short, digits_value-take-le}
 use Rattle.std.proofs.lemmas.List.Sums.{prefix_len-le-length}
 use Rattle.std.proofs.lemmas.List.{take_rest}
+use Rattle.std.proofs.lemmas.Bool.{false≢true}
 use Rattle.std.proofs.lemmas.Bool.Decides.{nat_tests}
+use Rattle.std.proofs.lemmas.List.Folds.{list_all_at}
 use Rattle.nf_frac.specs.Digits.{are_digits, decimal_value}
 
 pub digits_model : IsNumeralModel (λ ds. list_all is_ascii_digit ds ≡ true) (digits_value 10)
@@ -55,6 +58,22 @@ module _ (test : ℕ → Bool) (xs : List ℕ) where
 pub digits_short : (ds : List ℕ) (k : ℕ) → are_digits ds ≡ true → length ds ≤ k → decimal_value ds < 10 ^ k
 digits_short ds k h short = digits_value_short digits_model ds k (digits_all ds h) short
 
--- no number: it is out of range
-pub none_wide : (ds : List ℕ) (r : Option ℕ) → SomeIff r (decimal_value ds < 2 ^ 127) (decimal_value ds) → r ≡ None → decimal_value ds < 2 ^ 127 → ⊥
-none_wide ds r h e = subst (λ (q : Option ℕ). SomeIff q (decimal_value ds < 2 ^ 127) (decimal_value ds)) e h
+-- each of some digits is one
+pub digit_at : (ds : List ℕ) (i : ℕ) → are_digits ds ≡ true → i < length ds → is_ascii_digit (get_or ds i 0) ≡ true
+digit_at ds i h inside = by_cases (is_ascii_digit (get_or ds i 0)) refl
+  where
+    by_cases : (b : Bool) → is_ascii_digit (get_or ds i 0) ≡ b → is_ascii_digit (get_or ds i 0) ≡ true
+    by_cases true e = e
+    by_cases false e = absurd (false≢true (sym (list_all_at is_ascii_digit ds i 0 inside e) ∙ digits_all ds h))
+
+-- one digit more
+pub next_value : (ds : List ℕ) (i value : ℕ) → are_digits ds ≡ true → i < length ds → value ≡ decimal_value (take i ds)
+    → value * 10 + (get_or ds i 0 - 48) ≡ decimal_value (take (i + 1) ds)
+next_value ds i value h inside is =
+    let digit = digit_at ds i h inside in
+    let worth : digit_value (get_or ds i 0) ≡ get_or ds i 0 - 48 = grind (arith, nat_tests) in
+    rw (digits_value_more 10 ds i inside, worth, is)
+
+-- nine digits, or the first of them, write no more
+pub value_small : (ds : List ℕ) (i : ℕ) → are_digits ds ≡ true → length ds ≤ 9 → decimal_value (take i ds) < 1_000_000_000
+value_small ds i h short = omega (arith, digits_value-take-le 10 ds i (omega arith), digits_short ds 9 h short)

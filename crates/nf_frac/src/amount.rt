@@ -4,7 +4,7 @@ ghost use Rattle.nf_num.specs.Rational.{frac};
 ghost use Rattle.nf_frac.specs.Range.{InRange};
 ghost use Rattle.nf_frac.specs.Amounts.{IsAmount, amount_read, amount_value, most_thousandths, parts_read, magnitude_read, whole_read};
 
-use crate::digits::{are_digits, number, split_once};
+use crate::digits::{are_digits, short_number, split_once};
 use crate::frac::Frac;
 
 /// An amount of the data: so many thousandths.
@@ -30,7 +30,7 @@ impl Frac {
         requires { IsAmount a }
         ensures { result ≡ amount_value a }
     {
-        Frac::reduced(a.thousandths as i128, 1000, 1000)
+        Frac::of_thousandths(a.thousandths)
     }
 
     /// So many thousandths as a fraction in lowest terms, of any amounts or sums of amounts.
@@ -38,7 +38,21 @@ impl Frac {
         requires { InRange thousandths }
         ensures { result ≡ frac thousandths 1000 }
     {
-        Frac::reduced(thousandths, 1000, 1000)
+        match i64::try_from(thousandths) {
+            Ok(narrow) => Frac::of_thousandths(narrow),
+            Err(_) => Frac::reduced(thousandths, 1000, 1000),
+        }
+    }
+
+    // The same in 64 bits. Most amounts are whole, and there is then nothing to reduce.
+    fn of_thousandths(thousandths: i64) -> Frac
+        ensures { result ≡ frac thousandths 1000 }
+    {
+        if thousandths % 1000 == 0 {
+            Frac::from_whole(thousandths / 1000)
+        } else {
+            Frac::reduced(i128::from(thousandths), 1000, 1000)
+        }
     }
 }
 
@@ -68,7 +82,7 @@ pub fn read_amount(text: &[u8]) -> Result<Amount, AmountFault>
 }
 
 // The thousandths of an amount without its sign.
-fn read_magnitude(text: &[u8]) -> Result<u128, AmountFault>
+fn read_magnitude(text: &[u8]) -> Result<u64, AmountFault>
     ensures value { result ≡ magnitude_read text.now }
     ensures range { IfOk result (λ n. n ≤ most_thousandths) }
 {
@@ -78,30 +92,29 @@ fn read_magnitude(text: &[u8]) -> Result<u128, AmountFault>
     }
 }
 
-fn read_whole(digits: &[u8]) -> Result<u128, AmountFault>
+fn read_whole(digits: &[u8]) -> Result<u64, AmountFault>
     ensures value { result ≡ whole_read digits.now }
     ensures range { IfOk result (λ n. n ≤ most_thousandths) }
 {
     if !are_digits(digits) {
         return Err(AmountFault::Form);
     }
-    match number(digits) {
-        Some(number) if digits.len() <= 9 => Ok(number * 1000),
-        _ => Err(AmountFault::Wide),
+    if digits.len() > 9 {
+        return Err(AmountFault::Wide);
     }
+    Ok(short_number(digits) * 1000)
 }
 
-fn read_parts(whole: &[u8], rest: &[u8]) -> Result<u128, AmountFault>
+fn read_parts(whole: &[u8], rest: &[u8]) -> Result<u64, AmountFault>
     ensures value { result ≡ parts_read whole.now rest.now }
     ensures range { IfOk result (λ n. n ≤ most_thousandths) }
 {
     if !are_digits(whole) || !are_digits(rest) {
         return Err(AmountFault::Form);
     }
-    match (number(whole), number(rest)) {
-        (Some(number), Some(part)) if whole.len() <= 9 && rest.len() <= 3 => Ok(
-            number * 1000 + part * 10u128.pow(3 - rest.len() as u32),
-        ),
-        _ => Err(AmountFault::Wide),
+    if whole.len() > 9 || rest.len() > 3 {
+        return Err(AmountFault::Wide);
     }
+    let part = short_number(rest) * 10u64.pow(3 - rest.len() as u32);
+    Ok(short_number(whole) * 1000 + part)
 }

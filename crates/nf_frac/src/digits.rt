@@ -40,6 +40,19 @@ pub(crate) fn number(digits: &[u8]) -> Option<u128>
     }
 }
 
+// The number that at most nine digits write.
+pub(crate) fn short_number(digits: &[u8]) -> u64
+    requires digits { are_digits digits.now ≡ true }
+    requires short { length digits.now ≤ 9 }
+    ensures { result ≡ decimal_value digits.now }
+{
+    let mut value = 0;
+    for digit in digits {
+        value = value * 10 + u64::from(*digit - b'0');
+    }
+    value
+}
+
 // What stands on both sides of the first `mark`, where there is one.
 pub(crate) fn split_once(text: &[u8], mark: u8) -> Option<(&[u8], &[u8])>
     ensures { MatchOption result (position_or_len (λ b. b == mark) text.now ≡ length text.now)
