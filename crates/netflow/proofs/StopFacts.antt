@@ -5,7 +5,7 @@ use Rattle.std.specs.Option.{option_copied}
 use Rattle.nf_model.specs.Program.{LinearProgram}
 use Rattle.nf_prob.specs.declared.cert.Cert.{Cert}
 use Rattle.nf_cert.specs.Reading.{cert_read}
-use Rattle.nf_prob.specs.Labels.{LabelList}
+use Rattle.nf_labels.specs.Labels.{LabelList}
 use Rattle.nf_network.specs.Network.{Network, network_due}
 use Rattle.netflow.specs.ProblemOf.{Refusal as ProblemRefusal, OfData, OfRoles, OfTable, header_in, in_data, in_roles, in_size, layout, most_rows, problem_in, problem_of, then_with, with_cons, with_constraints, with_nodes}
 use Rattle.nf_roles.specs.declared.columns.SetKind.TheVariants.{Arcs}

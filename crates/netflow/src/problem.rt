@@ -2,7 +2,7 @@
 ghost use Rattle.std.specs.Prelude.{◌≡◌, ◌⊎◌, [], Some, Ok, Err, IfOk, IfErr, IfSome, MatchResult, length};
 ghost use Rattle.std.specs.Option.{is_some, option_copied};
 ghost use Rattle.nf_frac.specs.Amounts.{IsAmount};
-ghost use Rattle.nf_prob.specs.Labels.{LabelList};
+ghost use Rattle.nf_labels.specs.Labels.{LabelList};
 ghost use Rattle.nf_network.specs.Network.{network_due, roles_or_none, table_or_none};
 ghost use Rattle.nf_roles.specs.Assigned.{header_of, roles_due};
 ghost use Rattle.nf_roles.specs.Roles.{HasColumnsBelow};
@@ -13,8 +13,9 @@ ghost use Rattle.netflow.specs.Steps.{IsPosed, IsStopOf, stop_of_data, stop_of_r
 use crate::refusal::{Refusal, Stop};
 use nf_cons::dense;
 use nf_io::Text;
+use nf_labels::Labels;
 use nf_network::network;
-use nf_prob::{Labels, Problem, ProblemBuilder};
+use nf_prob::{Problem, ProblemBuilder};
 use nf_roles::{DataFault, DataKind, RoleFault, Roles, SetKind, assign};
 use nf_sparse::sparse;
 use nf_stmt::{ProcOptions, Program, SetName};

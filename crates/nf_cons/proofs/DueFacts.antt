@@ -1,7 +1,7 @@
 -- The network with constraints is the one that is due.
 use Rattle.std.proofs.Common.{◌≡◌, ◌⊎◌, ◌<◌, ◌≤◌, ◌+◌, ◌++◌, ℕ, false, List, Some, None, Ok, Err, length, map, take, refl, sym, ap, ◌∙◌, inl, inr, arith}
 use Rattle.std.proofs.lemmas.List.{length-append, length-take-le}
-use Rattle.nf_prob.specs.Labels.{AreNumbered, LabelList}
+use Rattle.nf_labels.specs.Labels.{AreNumbered, LabelList}
 use Rattle.nf_table.specs.Grid.{Grid}
 use Rattle.nf_cells.specs.Names.{Name}
 use Rattle.nf_program.specs.declared.program.ProcOptions.{ProcOptions}

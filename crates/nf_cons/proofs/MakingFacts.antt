@@ -9,7 +9,7 @@ use Rattle.nf_frac.specs.Amounts.{amount_value}
 use Rattle.nf_model.specs.declared.RowKind.{RowKind}
 use Rattle.nf_model.specs.Program.{Column, Entry, LinearProgram, Row, column}
 use Rattle.nf_prob.specs.Building.{inserted, with_column, with_entry, with_row}
-use Rattle.nf_prob.specs.Labels.{LabelList}
+use Rattle.nf_labels.specs.Labels.{LabelList}
 use Rattle.nf_cells.specs.Names.{Name}
 use Rattle.nf_program.specs.declared.program.ProcOptions.{ProcOptions}
 use Rattle.nf_network.specs.Excess.{joined_below}

@@ -6,7 +6,7 @@ use Rattle.std.specs.List.{fold}
 use Rattle.nf_frac.specs.Amounts.{amount_value}
 use Rattle.nf_model.specs.Program.{Column, LinearProgram, Row}
 use Rattle.nf_prob.specs.Building.{new_column, with_entry}
-use Rattle.nf_prob.specs.Labels.{LabelList}
+use Rattle.nf_labels.specs.Labels.{LabelList}
 use Rattle.nf_cells.specs.Names.{Name}
 use Rattle.nf_program.specs.declared.program.ProcOptions.{ProcOptions}
 use Rattle.nf_network.specs.Excess.{joined_below}

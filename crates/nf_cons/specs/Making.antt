@@ -4,7 +4,7 @@ use Rattle.std.specs.Prelude.{◌≡◌, ◌≤◌, ◌<◌, ◌^◌, ◌+◌, �
 use Rattle.std.specs.List.{All, list_any}
 use Rattle.nf_cells.specs.Names.{Name}
 use Rattle.nf_model.specs.Program.{Column, Entry, LinearProgram}
-use Rattle.nf_prob.specs.Labels.{AreNumbered}
+use Rattle.nf_labels.specs.Labels.{AreNumbered}
 use Rattle.nf_network.specs.Faults.{are_crossed}
 use Rattle.nf_network.specs.Network.{Network}
 use Rattle.nf_cons.specs.declared.taken.Coefficient.{Coefficient}

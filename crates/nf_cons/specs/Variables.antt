@@ -6,7 +6,7 @@ use Rattle.std.specs.List.{find}
 use Rattle.std.specs.Str.{bytes_eq}
 use Rattle.nf_cells.specs.Cells.{is_name}
 use Rattle.nf_cells.specs.Names.{Name, has_name, place_of, first_seen}
-use Rattle.nf_prob.specs.Labels.{LabelList}
+use Rattle.nf_labels.specs.Labels.{LabelList}
 use Rattle.nf_roles.specs.declared.fault.DataKind.TheVariants as kind
 use Rattle.nf_network.specs.Faults.{excess}
 use Rattle.nf_cons.specs.declared.places.Home.{Home}

@@ -5,7 +5,7 @@ ghost use Rattle.nf_cons.specs.Variables.{arcs_of};
 
 use crate::found::NamedArc;
 use nf_cells::Names;
-use nf_prob::Labels;
+use nf_labels::Labels;
 use std::alloc::{AllocError, Global};
 use std::marker::Model;
 

@@ -1,6 +1,6 @@
 //! Dense CONDATA: a row for each constraint, a column for each variable.
 ghost use Rattle.std.specs.Prelude.{◌≡◌, ◌⊎◌, ◌≤◌, None, Ok, Err, IfOk, MatchResult, length, map};
-ghost use Rattle.nf_prob.specs.Labels.{AreNumbered};
+ghost use Rattle.nf_labels.specs.Labels.{AreNumbered};
 ghost use Rattle.nf_roles.specs.Roles.{HasColumnsBelow};
 ghost use Rattle.nf_cons.specs.Dense.{Dense, dense_row, first_row_fault, givens, names, sides};
 ghost use Rattle.nf_cons.specs.Due.{IsNetworkOf, dense_constraints, dense_due, dense_fault};
@@ -20,7 +20,8 @@ use crate::places::RowFault;
 use crate::row_type::default_type;
 use crate::terms::Terms;
 use nf_cells::Names;
-use nf_prob::{Labels, ProblemBuilder};
+use nf_labels::Labels;
+use nf_prob::ProblemBuilder;
 use nf_roles::{DataFault, DataKind, Roles};
 use nf_stmt::{ProcOptions, SetName};
 use nf_table::Table;

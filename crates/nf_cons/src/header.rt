@@ -13,7 +13,7 @@ use crate::fault::{at, in_row, no_memory};
 use crate::places::{Home, Place, PlacedFault, RowFault};
 use crate::variables::Variables;
 use nf_cells::{Names, is_missing, trimmed};
-use nf_prob::Labels;
+use nf_labels::Labels;
 use nf_roles::{DataKind, Roles};
 use nf_table::Table;
 use std::alloc::Global;

@@ -14,7 +14,8 @@ use crate::bounds::defaults_of;
 use crate::constraints::Constraints;
 use nf_cells::Bound;
 use nf_frac::{Amount, Frac};
-use nf_prob::{Labels, ProblemBuilder};
+use nf_labels::Labels;
+use nf_prob::ProblemBuilder;
 use nf_stmt::ProcOptions;
 use std::alloc::AllocError;
 

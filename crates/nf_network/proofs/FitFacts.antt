@@ -5,7 +5,7 @@ use Rattle.std.specs.List.{flat_map}
 use Rattle.nf_frac.specs.Texts.{frac_text}
 use Rattle.nf_model.specs.declared.RowKind.TheVariants.{Eq}
 use Rattle.nf_model.specs.Program.{Column, Row}
-use Rattle.nf_prob.specs.Labels.{AreNumbered, NodeText}
+use Rattle.nf_labels.specs.Labels.{AreNumbered, NodeText}
 use Rattle.nf_table.specs.Grid.{Cells, Grid}
 use Rattle.nf_cells.specs.Names.{Name}
 use Rattle.nf_cells.specs.declared.values.Supply.{Supply}

@@ -3,7 +3,7 @@ use Rattle.std.proofs.Common.{◌≡◌, ◌<◌, ◌+◌, ◌++◌, ℕ, Bool, 
 use Rattle.std.proofs.lemmas.List.{append-nil, map-append, take_more}
 use Rattle.std.proofs.lemmas.List.Concat.{flat_map-append}
 use Rattle.std.specs.List.{flat_map}
-use Rattle.nf_prob.specs.Labels.{LabelList}
+use Rattle.nf_labels.specs.Labels.{LabelList}
 use Rattle.nf_table.specs.Grid.{Cells}
 use Rattle.nf_cells.specs.Names.{Name}
 use Rattle.nf_cells.specs.declared.values.Supply.{Supply}

@@ -10,7 +10,7 @@ use Rattle.nf_frac.specs.Texts.{frac_text}
 use Rattle.nf_model.specs.declared.RowKind.TheVariants.{Eq}
 use Rattle.nf_model.specs.Program.{Column, Row, LinearProgram}
 use Rattle.nf_prob.specs.Building.{new_column}
-use Rattle.nf_prob.specs.Labels.{LabelList, NodeText}
+use Rattle.nf_labels.specs.Labels.{LabelList, NodeText}
 use Rattle.nf_table.specs.Grid.{Cells, Grid}
 use Rattle.nf_cells.specs.Names.{Name, place_of}
 use Rattle.nf_cells.specs.declared.values.Bound.{Bound}

@@ -1,7 +1,7 @@
 //! The labels of the network: names, supplies as texts, and ID columns.
 ghost use Rattle.std.specs.Prelude.{◌≡◌, ◌≤◌, ◌<◌, ◌^◌, ◌+◌, ◌∷◌, ◌++◌, [], IfOk, OnOk, if◌then◌else◌, length, get_or};
 ghost use Rattle.std.specs.List.{flat_map};
-ghost use Rattle.nf_prob.specs.Labels.{no_labels};
+ghost use Rattle.nf_labels.specs.Labels.{no_labels};
 ghost use Rattle.nf_roles.specs.Roles.{HasColumnsBelow};
 ghost use Rattle.nf_network.specs.Excess.{joined_below};
 ghost use Rattle.nf_network.specs.Faults.{excess, most_arcs, most_nodes};
@@ -17,7 +17,7 @@ use crate::nodes::Nodes;
 use crate::pass::{Arcs, name_of_arc};
 use nf_cells::Supply;
 use nf_frac::Frac;
-use nf_prob::Labels;
+use nf_labels::Labels;
 use nf_roles::Roles;
 use nf_table::Table;
 use std::alloc::{AllocError, Global};

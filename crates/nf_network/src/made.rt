@@ -2,14 +2,15 @@
 ghost use Rattle.std.specs.Prelude.{◌≡◌, ◌⊎◌, Ok, Err, IfOk, IfSome, MatchResult, length};
 ghost use Rattle.std.specs.Option.{is_some};
 ghost use Rattle.nf_frac.specs.Amounts.{IsAmount};
-ghost use Rattle.nf_prob.specs.Labels.{AreNumbered};
+ghost use Rattle.nf_labels.specs.Labels.{AreNumbered};
 ghost use Rattle.nf_roles.specs.Roles.{HasColumnsBelow};
 ghost use Rattle.nf_network.specs.Network.{network_due, roles_or_none, table_or_none};
 
 use crate::labelling::make_labels;
 use crate::making::make_problem;
 use crate::read::read_network;
-use nf_prob::{Labels, ProblemBuilder};
+use nf_labels::Labels;
+use nf_prob::ProblemBuilder;
 use nf_roles::{DataFault, DataKind, Roles};
 use nf_stmt::{ProcOptions, SetName};
 use nf_table::Table;

@@ -1,10 +1,11 @@
 ghost use Rattle.std.specs.Prelude.{◌≡◌, true, IfOk, IfSome};
 ghost use Rattle.nf_frac.specs.Amounts.{IsAmount};
-ghost use Rattle.nf_prob.specs.Labels.{AreNumbered};
+ghost use Rattle.nf_labels.specs.Labels.{AreNumbered};
 
 use crate::network;
 use nf_frac::Amount;
-use nf_prob::{Labels, Problem, ProblemBuilder};
+use nf_labels::Labels;
+use nf_prob::{Problem, ProblemBuilder};
 use nf_roles::{DataFault, RoleFault, SetKind, assign};
 use nf_stmt::{Command, read_program};
 use nf_table::{Table, read_table};

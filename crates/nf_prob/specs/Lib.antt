@@ -10,5 +10,3 @@ pub mod Arising
 pub mod Verdict
 pub mod Greatest
 pub mod Reduced
-pub mod Labels
-pub mod Labelled

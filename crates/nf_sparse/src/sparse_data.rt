@@ -1,6 +1,6 @@
 //! Sparse CONDATA: a line for each coefficient.
 ghost use Rattle.std.specs.Prelude.{◌≡◌, ◌⊎◌, ◌≤◌, ◌<◌, ◌^◌, None, Ok, Err, IfOk, MatchResult, length};
-ghost use Rattle.nf_prob.specs.Labels.{AreNumbered};
+ghost use Rattle.nf_labels.specs.Labels.{AreNumbered};
 ghost use Rattle.nf_roles.specs.Roles.{HasColumnsBelow};
 ghost use Rattle.nf_cons.specs.Due.{IsNetworkOf};
 ghost use Rattle.nf_cons.specs.Making.{AreConstraints};
@@ -17,7 +17,8 @@ use nf_cons::{
     Constraints, RowFault, Terms, Variables, add_constraints, arc_names, check_bounds,
     default_type, defaults_of, in_row, no_memory, told,
 };
-use nf_prob::{Labels, ProblemBuilder};
+use nf_labels::Labels;
+use nf_prob::ProblemBuilder;
 use nf_roles::{DataFault, DataKind, Roles};
 use nf_stmt::{ProcOptions, SetName};
 use nf_table::Table;

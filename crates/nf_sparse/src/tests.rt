@@ -1,6 +1,7 @@
 use crate::sparse;
+use nf_labels::Labels;
 use nf_network::network;
-use nf_prob::{Labels, Problem};
+use nf_prob::Problem;
 use nf_roles::{DataFault, RoleFault, Roles, SetKind, assign};
 use nf_stmt::{Command, Program, read_program};
 use nf_table::{Table, read_table};

@@ -1,5 +1,5 @@
 use Rattle.std.proofs.Common.{ap, refl}
-use Rattle.nf_network.specs.ProblemOf.{in_data}
+use Rattle.netflow.specs.ProblemOf.{in_data}
 use Rattle.netflow.proofs.StopFacts.{data-stop}
 use Rattle.netflow.proofs.problem.build.Goals as goal
 

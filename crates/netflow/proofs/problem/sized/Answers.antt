@@ -1,5 +1,5 @@
 use Rattle.std.proofs.Common.{◌<◌, length, subst, arith}
-use Rattle.nf_network.specs.ProblemOf.{most_rows}
+use Rattle.netflow.specs.ProblemOf.{most_rows}
 use Rattle.netflow.proofs.StopFacts.{size-stop}
 use Rattle.netflow.proofs.problem.sized.Goals as goal
 

@@ -1,14 +1,14 @@
 //! The names of the parts of a problem.
 ghost use Rattle.std.specs.Prelude.{◌≡◌, ◌<◌, ◌≤◌, ◌+◌, ◌-◌, ◌*◌, ◌^◌, ℕ, List, [], ◌∷◌, ◌++◌, length, get_or, IfOk, OnOk, IfErr};
-ghost use Rattle.nf_prob.specs.Labels.{LabelList, id_place, no_labels, no_node};
-ghost use Rattle.nf_prob.specs.Numbers.{IsNumber};
+ghost use Rattle.nf_labels.specs.Labels.{LabelList, id_place, no_labels, no_node};
 
+use crate::texts::Texts;
 use std::alloc::{AllocError, Global};
 use std::marker::Model;
 
 /// The name of a node, and its supply as a text.
 #[derive(Drop)]
-pub(crate) struct NodeLabel {
+struct NodeLabel {
     name: Vec<u8>,
     supdem: Vec<u8>,
 }
@@ -22,16 +22,16 @@ pub(crate) struct NodeLabel {
 pub struct Labels {
     alloc: Global,
     nodes: Vec<NodeLabel>,
-    columns: Vec<Vec<u8>>,
+    columns: Texts,
     own_arcs: u32,
-    constraints: Vec<Vec<u8>>,
-    id_headers: Vec<Vec<u8>>,
-    ids: Vec<Vec<u8>>,
+    constraints: Texts,
+    id_headers: Texts,
+    ids: Texts,
 }
 
 impl Model for Labels {
-    ghost use Rattle.nf_prob.specs.Labels.{LabelList};
-    ghost use Rattle.nf_prob.specs.Labelled.{AreFew, labels_inside};
+    ghost use Rattle.nf_labels.specs.Labels.{LabelList};
+    ghost use Rattle.nf_labels.specs.Labelled.{AreFew, labels_inside};
 
     ghost Value = { LabelList };
 
@@ -48,11 +48,11 @@ impl Labels {
         Labels {
             alloc,
             nodes: Vec::new(alloc),
-            columns: Vec::new(alloc),
+            columns: Texts::new(alloc),
             own_arcs: 0,
-            constraints: Vec::new(alloc),
-            id_headers: Vec::new(alloc),
-            ids: Vec::new(alloc),
+            constraints: Texts::new(alloc),
+            id_headers: Texts::new(alloc),
+            ids: Texts::new(alloc),
         }
     }
 
@@ -77,7 +77,6 @@ impl Labels {
         ensures added { OnOk result (self.new ≡ record self.old { columns = self.old.columns ++ name.now ∷ []; own_arcs = self.old.own_arcs + 1 }) }
         ensures kept { IfErr result (λ _. self.new ≡ self.old) }
     {
-        let name = Vec::from_slice(self.alloc, name)?;
         self.columns.push(name)?;
         self.own_arcs += 1;
         Ok(())
@@ -89,7 +88,6 @@ impl Labels {
         ensures added { OnOk result (self.new ≡ record self.old { columns = self.old.columns ++ name.now ∷ [] }) }
         ensures kept { IfErr result (λ _. self.new ≡ self.old) }
     {
-        let name = Vec::from_slice(self.alloc, name)?;
         self.columns.push(name)?;
         Ok(())
     }
@@ -100,7 +98,6 @@ impl Labels {
         ensures added { OnOk result (self.new ≡ record self.old { constraints = self.old.constraints ++ name.now ∷ [] }) }
         ensures kept { IfErr result (λ _. self.new ≡ self.old) }
     {
-        let name = Vec::from_slice(self.alloc, name)?;
         self.constraints.push(name)?;
         Ok(())
     }
@@ -111,7 +108,6 @@ impl Labels {
         ensures added { OnOk result (self.new ≡ record self.old { id_headers = self.old.id_headers ++ name.now ∷ [] }) }
         ensures kept { IfErr result (λ _. self.new ≡ self.old) }
     {
-        let name = Vec::from_slice(self.alloc, name)?;
         self.id_headers.push(name)?;
         Ok(())
     }
@@ -121,14 +117,13 @@ impl Labels {
         ensures added { OnOk result (self.new ≡ record self.old { ids = self.old.ids ++ cell.now ∷ [] }) }
         ensures kept { IfErr result (λ _. self.new ≡ self.old) }
     {
-        let cell = Vec::from_slice(self.alloc, cell)?;
         self.ids.push(cell)?;
         Ok(())
     }
 
     /// The name of a node.
     pub fn node(&self, i: u32) -> &[u8]
-        requires number { IsNumber i (length self.now.nodes) }
+        requires number { (0 < i) × (i ≤ length self.now.nodes) }
         ensures name { result.now ≡ (get_or self.now.nodes (i - 1) no_node).name }
     {
         &self.nodes[i as usize - 1].name
@@ -136,7 +131,7 @@ impl Labels {
 
     /// The supply of a node as a text: an amount in lowest terms, which is negative for a demand, `.S` or `.D`.
     pub fn supdem(&self, i: u32) -> &[u8]
-        requires number { IsNumber i (length self.now.nodes) }
+        requires number { (0 < i) × (i ≤ length self.now.nodes) }
         ensures text { result.now ≡ (get_or self.now.nodes (i - 1) no_node).supdem }
     {
         &self.nodes[i as usize - 1].supdem
@@ -144,10 +139,10 @@ impl Labels {
 
     /// The name of a column.
     pub fn column(&self, j: u32) -> &[u8]
-        requires number { IsNumber j (length self.now.columns) }
+        requires number { (0 < j) × (j ≤ length self.now.columns) }
         ensures name { result.now ≡ get_or self.now.columns (j - 1) [] }
     {
-        &self.columns[j as usize - 1]
+        self.columns.get(j as usize - 1)
     }
 
     /// The name of a constraint, by the number of its row.
@@ -156,7 +151,7 @@ impl Labels {
         requires number { i - length self.now.nodes ≤ length self.now.constraints }
         ensures name { result.now ≡ get_or self.now.constraints (i - length self.now.nodes - 1) [] }
     {
-        &self.constraints[i as usize - self.nodes.len() - 1]
+        self.constraints.get(i as usize - self.nodes.len() - 1)
     }
 
     /// How many arcs of ARCDATA there are.
@@ -179,16 +174,17 @@ impl Labels {
         requires column { c < length self.now.id_headers }
         ensures name { result.now ≡ get_or self.now.id_headers c [] }
     {
-        &self.id_headers[c as usize]
+        self.id_headers.get(c as usize)
     }
 
     /// The cell of an arc of ARCDATA in an ID column.
     pub fn id(&self, j: u32, c: u32) -> &[u8]
-        requires arc { IsNumber j self.now.own_arcs }
+        requires arc { (0 < j) × (j ≤ self.now.own_arcs) }
         requires column { c < length self.now.id_headers }
         requires there { id_place self.now j c < length self.now.ids }
         ensures cell { result.now ≡ get_or self.now.ids (id_place self.now j c) [] }
     {
-        &self.ids[(j as usize - 1) * self.id_headers.len() + c as usize]
+        self.ids
+            .get((j as usize - 1) * self.id_headers.len() + c as usize)
     }
 }

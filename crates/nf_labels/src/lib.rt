@@ -1,0 +1,7 @@
+//! The names of the parts of a problem.
+#![tactic(auto)]
+
+mod labels;
+mod texts;
+
+pub use labels::Labels;
