@@ -5,8 +5,8 @@ use Rattle.nf_prob.specs.declared.cert.Cert.{Cert}
 use Rattle.nf_cert.specs.declared.columns.Columns.{Columns}
 use Rattle.nf_cert.specs.declared.fault.CertFault.{CertFault}
 use Rattle.nf_cert.specs.Items.{cert_row}
-use Rattle.nf_cert.specs.Reading.{best_read, by_columns, cert_read, columns_read}
-use Rattle.nf_cert.specs.Rows.{optimal_read, rows_read}
+use Rattle.nf_cert.specs.Reading.{by_columns, cert_read, columns_read}
+use Rattle.nf_cert.specs.Rows.{rows_read}
 
 -- a column is not there
 pub lacking : (t : Grid) (columns rows : ℕ) (e : CertFault) → ◌≡◌ {A = Result Columns CertFault} (Err e) (columns_read t.header)
@@ -21,16 +21,3 @@ pub reading-with : (t : Grid) (columns rows : ℕ) (k : Columns) → ◌≡◌ {
 unfolding cert_read
 reading-with t columns rows k h =
     ap (λ (r : Result Columns CertFault). by_columns r (λ at_columns. rows_read columns rows (map (cert_row at_columns) t.rows))) h
-
--- the same where optimality alone may be claimed
-pub best-lacking : (t : Grid) (columns rows : ℕ) (e : CertFault) → ◌≡◌ {A = Result Columns CertFault} (Err e) (columns_read t.header)
-    → ◌≡◌ {A = Result Cert CertFault} (Err e) (best_read t columns rows)
-unfolding best_read
-best-lacking t columns rows e h =
-    ap (λ (k : Result Columns CertFault). by_columns k (λ at_columns. optimal_read columns rows (map (cert_row at_columns) t.rows))) h
-
-pub best-with : (t : Grid) (columns rows : ℕ) (k : Columns) → ◌≡◌ {A = Result Columns CertFault} (Ok k) (columns_read t.header)
-    → optimal_read columns rows (map (cert_row k) t.rows) ≡ best_read t columns rows
-unfolding best_read
-best-with t columns rows k h =
-    ap (λ (r : Result Columns CertFault). by_columns r (λ at_columns. optimal_read columns rows (map (cert_row at_columns) t.rows))) h

@@ -1,5 +1,5 @@
 -- The columns of a certificate's table, and what the whole table is read as.
--- The contract of `read_cert` is that it answers `cert_read`, that of `read_best` that it answers `best_read`.
+-- The contract of `read_cert` is that it answers `cert_read`.
 use Rattle.std.specs.Prelude.{ℕ, map, Option, Some, None, Result, Ok, Err, codes}
 use Rattle.nf_prob.specs.declared.cert.Cert.{Cert}
 use Rattle.nf_table.specs.Grid.{Cells, Grid, column_of}
@@ -7,7 +7,7 @@ use Rattle.nf_cert.specs.declared.columns.Columns.{Columns}
 use Rattle.nf_cert.specs.declared.fault.CertFault.{CertFault}
 use Rattle.nf_cert.specs.declared.fault.CertFault.TheVariants as fault
 use Rattle.nf_cert.specs.Items.{cert_row}
-use Rattle.nf_cert.specs.Rows.{optimal_read, rows_read}
+use Rattle.nf_cert.specs.Rows.{rows_read}
 
 -- The three columns, or the first that is not there.
 abbrev pub columns_from : Option ℕ → Option ℕ → Option ℕ → Result Columns CertFault
@@ -28,7 +28,3 @@ by_columns (Ok at_columns) read = read at_columns
 -- What a table is read as, for a problem of so many columns and rows.
 unfoldable pub cert_read : Grid → ℕ → ℕ → Result Cert CertFault
 cert_read table columns rows = by_columns (columns_read table.header) (λ at_columns. rows_read columns rows (map (cert_row at_columns) table.rows))
-
--- What a table is read as where optimality alone may be claimed.
-unfoldable pub best_read : Grid → ℕ → ℕ → Result Cert CertFault
-best_read table columns rows = by_columns (columns_read table.header) (λ at_columns. optimal_read columns rows (map (cert_row at_columns) table.rows))

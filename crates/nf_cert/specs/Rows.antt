@@ -86,14 +86,3 @@ by_verdict (Ok v) read = read v
 -- What the rows are read as: by the verdict, the first fault, or where there is none the certificate.
 abbrev pub rows_read : ℕ → ℕ → List CertRow → Result Cert CertFault
 rows_read columns rows table = by_verdict (verdict_of (slice_get table 0)) (λ v. unless (first_fault (items_of v columns rows) table) (cert_read_from v columns rows table))
-
--- A verdict of optimality; another one makes the first row an unknown one.
-abbrev pub only_optimal : Result Verdict CertFault → Result Verdict CertFault
-only_optimal (Err e) = Err e
-only_optimal (Ok verdict.Optimal) = Ok verdict.Optimal
-only_optimal (Ok verdict.Infeasible) = Err (fault.UnknownRow 1)
-only_optimal (Ok verdict.Unbounded) = Err (fault.UnknownRow 1)
-
--- What the rows are read as where optimality alone may be claimed.
-abbrev pub optimal_read : ℕ → ℕ → List CertRow → Result Cert CertFault
-optimal_read columns rows table = by_verdict (only_optimal (verdict_of (slice_get table 0))) (λ v. unless (first_fault (items_of v columns rows) table) (cert_read_from v columns rows table))

@@ -49,12 +49,6 @@ HasSizes columns rows (cert.Best values duals) = (length values ≡ columns) × 
 HasSizes columns rows (cert.Farkas duals) = length duals ≡ rows
 HasSizes columns rows (cert.Ray values ray) = (length values ≡ columns) × (length ray ≡ columns)
 
--- A certificate is one of optimality, with so many values and so many duals.
-abbrev pub IsBestOf : ℕ → ℕ → Cert → Type 0
-IsBestOf columns rows (cert.Best values duals) = (length values ≡ columns) × (length duals ≡ rows)
-IsBestOf columns rows (cert.Farkas duals) = ⊥
-IsBestOf columns rows (cert.Ray values ray) = ⊥
-
 -- The first row is the row of the verdict, with this one.
 pub record HasVerdict (table : List CertRow) (v : Verdict) : Type 0 where
   pub is : verdict_of (slice_get table 0) ≡ Ok v

@@ -6,11 +6,9 @@ mod fault;
 mod item;
 mod reading;
 mod rows;
-#[cfg(test)]
-mod tests;
 mod verdict;
 mod writing;
 
 pub use fault::CertFault;
-pub use reading::{read_best, read_cert};
+pub use reading::read_cert;
 pub use writing::cert_table;

@@ -1,12 +1,12 @@
 //! Reading a certificate's table.
 ghost use Rattle.std.specs.Prelude.{◌≡◌, ◌⊎◌, ◌≤◌, ◌^◌, Err, IfOk, length};
 ghost use Rattle.nf_prob.specs.Verdict.{HasLengths};
-ghost use Rattle.nf_cert.specs.Reading.{best_read, cert_read};
-ghost use Rattle.nf_cert.specs.Steps.{HasSizes, IsBestOf};
+ghost use Rattle.nf_cert.specs.Reading.{cert_read};
+ghost use Rattle.nf_cert.specs.Steps.{HasSizes};
 
 use crate::columns::Columns;
 use crate::fault::CertFault;
-use crate::rows::{read_optimal_rows, read_rows};
+use crate::rows::read_rows;
 use nf_prob::{Cert, Problem};
 use nf_table::Table;
 use std::alloc::Global;
@@ -30,7 +30,7 @@ pub fn read_cert(alloc: Global, table: &Table, p: &Problem) -> Result<Cert, Cert
 }
 
 // The certificate that a table gives for a problem of so many columns and rows.
-pub(crate) fn read_counted(
+fn read_counted(
     alloc: Global,
     table: &Table,
     columns: u32,
@@ -46,29 +46,4 @@ pub(crate) fn read_counted(
         Err(fault) => return Err(fault),
     };
     read_rows(alloc, table, at, columns, rows)
-}
-
-/// The certificate of optimality that a table gives for a problem: as `read_cert`, but any other verdict makes the first
-/// row an unknown one.
-pub fn read_best(alloc: Global, table: &Table, p: &Problem) -> Result<Cert, CertFault>
-    ensures answer { (result ≡ Err CertFault.NoMemory) ⊎ (result ≡ best_read table.now (length p.now.columns) (length p.now.rows)) }
-    ensures lengths { IfOk result (HasLengths p.now) }
-    ensures best { IfOk result (IsBestOf (length p.now.columns) (length p.now.rows)) }
-{
-    best_counted(alloc, table, p.columns(), p.rows())
-}
-
-// The certificate of optimality that a table gives for a problem of so many columns and rows.
-fn best_counted(alloc: Global, table: &Table, columns: u32, rows: u32) -> Result<Cert, CertFault>
-    requires few_columns { columns ≤ 2 ^ 30 }
-    requires few_rows { rows ≤ 2 ^ 30 }
-    ensures answer { (result ≡ Err CertFault.NoMemory) ⊎ (result ≡ best_read table.now columns rows) }
-    ensures sizes { IfOk result (HasSizes columns rows) }
-    ensures best { IfOk result (IsBestOf columns rows) }
-{
-    let at = match Columns::find(alloc, table) {
-        Ok(at) => at,
-        Err(fault) => return Err(fault),
-    };
-    read_optimal_rows(alloc, table, at, columns, rows)
 }

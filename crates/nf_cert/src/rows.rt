@@ -2,8 +2,8 @@
 ghost use Rattle.std.specs.Prelude.{◌≡◌, ◌⊎◌, ◌<◌, ◌≤◌, ◌+◌, ◌-◌, ◌^◌, map, length, slice_get, Some, None, Ok, Err, IfOk, MatchResult};
 ghost use Rattle.nf_cert.specs.Inside.{IsInside};
 ghost use Rattle.nf_cert.specs.Items.{HoldsFrac, cert_row, item, items_with};
-ghost use Rattle.nf_cert.specs.Rows.{first_fault, optimal_read, rows_read, verdict_of};
-ghost use Rattle.nf_cert.specs.Steps.{HasFrac, HasFracs, HasLists, HasSizes, HasValue, HasVerdict, IsBestOf, fault_below, first_in};
+ghost use Rattle.nf_cert.specs.Rows.{first_fault, rows_read, verdict_of};
+ghost use Rattle.nf_cert.specs.Steps.{HasFrac, HasFracs, HasLists, HasSizes, HasValue, HasVerdict, fault_below, first_in};
 
 use crate::columns::Columns;
 use crate::fault::CertFault;
@@ -184,37 +184,5 @@ pub(crate) fn read_rows(
             }),
             Err(fault) => Err(fault),
         },
-    }
-}
-
-// The same where optimality alone may be claimed: another verdict makes the first row an unknown one.
-pub(crate) fn read_optimal_rows(
-    alloc: Global,
-    table: &Table,
-    at: Columns,
-    columns: u32,
-    rows: u32,
-) -> Result<Cert, CertFault>
-    requires inside { IsInside at (length table.now.header) }
-    requires few_columns { columns ≤ 2 ^ 30 }
-    requires few_rows { rows ≤ 2 ^ 30 }
-    ensures answer { (result ≡ Err CertFault.NoMemory) ⊎ (result ≡ optimal_read columns rows (map (cert_row at) table.now.rows)) }
-    ensures sizes { IfOk result (HasSizes columns rows) }
-    ensures best { IfOk result (IsBestOf columns rows) }
-{
-    let verdict = match read_verdict(table, at) {
-        Ok(verdict) => verdict,
-        Err(fault) => return Err(fault),
-    };
-    match verdict {
-        Verdict::Optimal => match read_lists(alloc, table, at, columns, Kind::Row, rows) {
-            Ok(Lists { values, others }) => Ok(Cert::Best {
-                values,
-                duals: others,
-            }),
-            Err(fault) => Err(fault),
-        },
-        Verdict::Infeasible => Err(CertFault::UnknownRow(1)),
-        Verdict::Unbounded => Err(CertFault::UnknownRow(1)),
     }
 }
