@@ -11,3 +11,5 @@ pub mod NetworkFacts
 pub mod ReadFacts
 pub mod LabelFacts
 pub mod FitFacts
+pub mod AsciiFacts
+pub mod TextFacts

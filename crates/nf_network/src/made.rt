@@ -2,7 +2,7 @@
 ghost use Rattle.std.specs.Prelude.{◌≡◌, ◌⊎◌, Ok, Err, IfOk, IfSome, MatchResult, length};
 ghost use Rattle.std.specs.Option.{is_some};
 ghost use Rattle.nf_frac.specs.Amounts.{IsAmount};
-ghost use Rattle.nf_labels.specs.Labels.{AreNumbered};
+ghost use Rattle.nf_labels.specs.Labels.{AreLabelsOf};
 ghost use Rattle.nf_roles.specs.Roles.{HasColumnsBelow};
 ghost use Rattle.nf_network.specs.Network.{network_due, roles_or_none, table_or_none};
 
@@ -50,7 +50,7 @@ pub fn network(
         (λ n. network_due options.now arc_roles.now arc_table.now (roles_or_none node_roles.entry) (table_or_none node_table.entry) ≡ Ok (record { program = n.0; labels = n.1 }))
         (λ e. (e.kind ≡ DataKind.NoMemory)
         ⊎ (network_due options.now arc_roles.now arc_table.now (roles_or_none node_roles.entry) (table_or_none node_table.entry) ≡ Err e)) }
-    ensures fit { IfOk result (λ n. AreNumbered n.1 n.0) }
+    ensures fit { IfOk result (λ n. AreLabelsOf n.1 n.0) }
 {
     let arcs = match read_network(alloc, arc_roles, arc_table, node_roles, node_table, options) {
         Ok(arcs) => arcs,
@@ -59,6 +59,8 @@ pub fn network(
     let Ok(builder) = make_problem(alloc, &arcs, options) else {
         return Err(DataFault::no_memory(alloc, SetName::Arcdata));
     };
+    // Cells are UTF-8, no two of the header are the same, and no ID column stands twice.
+    let (_width, _ids) = (arc_table.width(), arc_roles.ids());
     match make_labels(alloc, &arcs, arc_roles, arc_table, options.thrunet) {
         Ok(labels) => Ok((builder, labels)),
         Err(_) => Err(DataFault::no_memory(alloc, SetName::Arcdata)),

@@ -1,6 +1,6 @@
 ghost use Rattle.std.specs.Prelude.{◌≡◌, true, IfOk, IfSome};
 ghost use Rattle.nf_frac.specs.Amounts.{IsAmount};
-ghost use Rattle.nf_labels.specs.Labels.{AreNumbered};
+ghost use Rattle.nf_labels.specs.Labels.{AreLabelsOf, AreNumbered};
 
 use crate::network;
 use nf_frac::Amount;
@@ -167,7 +167,7 @@ fn answer_text(
     alloc: Global,
     made: Result<(ProblemBuilder, Labels), DataFault>,
 ) -> Result<String, Fail>
-    requires { IfOk made (λ n. AreNumbered n.1 n.0) }
+    requires { IfOk made (λ n. AreLabelsOf n.1 n.0) }
 {
     match made {
         Ok((builder, labels)) => network_text(alloc, &builder.finish()?, &labels),

@@ -1,11 +1,12 @@
 -- Facts on the first of some numbers, on all that pass a test, and on the first of a list.
 use Rattle.std.proofs.Common.{◌≡◌, ◌+◌, ◌++◌, ◌⊎◌, ◌<◌, ◌≤◌, ℕ, zero, suc, Bool, true, false, List, [], ◌∷◌, Option, Some, None, IfSome, cond, length, take, drop, get_or, refl, sym, ap, ◌∙◌, inl, inr, arith}
-use Rattle.std.proofs.lemmas.Bool.{false≢true, cases_Bool, cases_lt}
+use Rattle.std.proofs.lemmas.Bool.{cases_lt}
 use Rattle.std.proofs.lemmas.List.{append-nil, length-append, take-append-drop, take_more}
 use Rattle.std.proofs.lemmas.List.Elements.{All-append, All-cons, All-nil, All-weaker}
-use Rattle.std.proofs.lemmas.List.Folds.{find-append, list_any-append}
+use Rattle.std.proofs.lemmas.List.Folds.{find-append}
 use Rattle.std.proofs.lemmas.List.Concat.{flat_map-append}
-use Rattle.std.specs.List.{All, find, list_any, flat_map}
+use Rattle.std.proofs.lemmas.List.Quantifiers.{all_pairs_push}
+use Rattle.std.specs.List.{All, AllPairs, find, flat_map}
 use Rattle.nf_roles.specs.First.{or_else, first_below, number_if, first_with, all_with}
 
 -- One number more that gives nothing.
@@ -71,6 +72,15 @@ all-below (suc n) p =
     by_test : (b : Bool) → All (λ c. c < suc n) (cond b (n ∷ []) [])
     by_test true = All-cons (λ c. c < suc n) n [] (omega arith) (All-nil (λ c. c < suc n))
     by_test false = All-nil (λ c. c < suc n)
+
+pub all-from-left : (n : ℕ) (p : ℕ → Bool) → AllPairs (λ a b. a < b) (all_with n p)
+unfolding all_with
+all-from-left zero p = λ i j d before within. absurd (omega (arith, within))
+all-from-left (suc n) p = by_test (p n) (all-from-left n p)
+  where
+    by_test : (t : Bool) → AllPairs (λ a b. a < b) (all_with n p) → AllPairs (λ a b. a < b) (all_with n p ++ cond t (n ∷ []) [])
+    by_test true h = all_pairs_push (λ a b. a < b) (all_with n p) n h (λ k d below. all-below n p k d below)
+    by_test false h = rw (append-nil (all_with n p)) h
 
 -- ---- the first of a list
 more : {A : Type 0} (xs : List A) (i : ℕ) (x : A) → i < length xs → x ≡ get_or xs i x → take (i + 1) xs ≡ take i xs ++ x ∷ []

@@ -1,7 +1,7 @@
 -- What roles say: the column of each role, the variables and the ID columns; and the cells of a row by their roles.
 -- Every reader of rows rests on these words.
-use Rattle.std.specs.Prelude.{◌≡◌, ◌<◌, ◌^◌, ℕ, List, [], Option, Some, None, IfSome, get_or, length}
-use Rattle.std.specs.List.{All}
+use Rattle.std.specs.Prelude.{◌<◌, ◌^◌, ℕ, List, [], Option, Some, None, IfSome, get_or, length}
+use Rattle.std.specs.List.{All, AllPairs}
 use Rattle.nf_table.specs.Grid.{Cells}
 use Rattle.nf_cells.specs.Names.{Name}
 use Rattle.nf_program.specs.declared.program.Role.{Role}
@@ -24,6 +24,10 @@ pub record HasColumnsBelow (r : RoleColumns) (width : ℕ) : Type 0 where
   pub variables : All (λ c. c < width) r.variables
   pub ids : All (λ c. c < width) r.ids
   pub few_ids : length r.ids < 2 ^ 32
+
+-- Columns stand from the left, each once.
+abbrev pub AreFromLeft : List ℕ → Type 0
+AreFromLeft columns = AllPairs (λ a b. a < b) columns
 
 -- A role without a column says nothing: its cell is empty.
 abbrev pub cell_of : Cells → Option ℕ → List ℕ

@@ -1,6 +1,6 @@
 //! The roles of a table's columns.
 ghost use Rattle.std.specs.Prelude.{◌≡◌, ◌<◌, ◌≤◌, ◌∷◌, [], IfSome, get_or, length};
-ghost use Rattle.nf_roles.specs.Roles.{HasColumnsBelow, RoleColumns, cell_for, column_for, column_text};
+ghost use Rattle.nf_roles.specs.Roles.{AreFromLeft, HasColumnsBelow, RoleColumns, cell_for, column_for, column_text};
 
 use crate::columns::number;
 use crate::reserved::first_reserved;
@@ -19,11 +19,13 @@ pub struct Roles {
 }
 
 impl Model for Roles {
-    ghost use Rattle.nf_roles.specs.Roles.{RoleColumns};
+    ghost use Rattle.nf_roles.specs.Roles.{AreFromLeft, RoleColumns};
 
     ghost Value = { RoleColumns };
 
     ghost view = { λ r. record { columns = r.columns; variables = r.variables.items; ids = r.ids.items } };
+
+    ghost invariant = { λ r. AreFromLeft r.ids.items };
 }
 
 impl Roles {
@@ -32,6 +34,7 @@ impl Roles {
         variables: SmallVec<u32, 8>,
         ids: SmallVec<u32, 8>,
     ) -> Roles
+        requires from_left { AreFromLeft ids.items }
         ensures { result ≡ record { columns = columns; variables = variables.items; ids = ids.items } }
     {
         Roles {
@@ -58,6 +61,7 @@ impl Roles {
     /// The ID columns, from the left.
     pub fn ids(&self) -> &[u32]
         ensures ids { result.now ≡ self.now.ids }
+        ensures from_left { AreFromLeft self.now.ids }
     {
         self.ids.as_slice()
     }

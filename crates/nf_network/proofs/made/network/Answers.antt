@@ -1,4 +1,4 @@
-use Rattle.std.proofs.Common.{◌≡◌, ◌∙◌, length, get_or, inl, inr, sym, ap}
+use Rattle.std.proofs.Common.{◌∙◌, length, get_or, inl, inr, sym}
 use Rattle.nf_network.specs.Excess.{joined_below}
 use Rattle.nf_network.specs.Keys.{no_key}
 use Rattle.nf_network.specs.Making.{column_at, column_made, name_at, no_figures}
@@ -8,6 +8,7 @@ use Rattle.nf_network.proofs.FitFacts.{fit}
 use Rattle.nf_network.proofs.Lists.{joined-ones}
 use Rattle.nf_network.proofs.NetworkFacts.{even, fault-is, keys-length, network-is, sound}
 use Rattle.nf_network.proofs.PassFacts.{map-length}
+use Rattle.nf_network.proofs.TextFacts.{labels-due}
 use Rattle.nf_network.proofs.made.network.Goals as goal
 
 pub returns-in-Err-clause-answer : goal.returns-in-Err-clause-answer
@@ -34,6 +35,9 @@ returns-in-Ok-make_labels-clause-fit c =
     let names = joined-ones (length c.in-Ok.arcs.keys) (λ k. (get_or c.in-Ok.arcs.keys k no_key).name) in
     let rows = keys-length c.args.options.now c.args.arc_roles.now c.args.arc_table.now (roles_or_none c.args.node_roles) (table_or_none c.args.node_table) c.in-Ok.arcs.nodes c.in-Ok.arcs.keys c.in-Ok.arcs.figures.items c.in-Ok.ensures.0 c.in-Ok.ensures.1 ∙ map-length (arc_row c.args.arc_roles.now) c.args.arc_table.now.rows in
     let values = even c.args.options.now c.args.arc_roles.now c.args.arc_table.now (roles_or_none c.args.node_roles) (table_or_none c.args.node_table) c.in-Ok.arcs.nodes c.in-Ok.arcs.keys c.in-Ok.arcs.figures.items c.in-Ok.ensures.0 c.in-Ok.ensures.1 in
+    let due = network-is c.args.options.now c.args.arc_roles.now c.args.arc_table.now (roles_or_none c.args.node_roles) (table_or_none c.args.node_table) c.in-Ok.arcs.nodes c.in-Ok.arcs.keys c.in-Ok.arcs.figures.items c.in-Ok.ensures.0 c.in-Ok.ensures.1 in
     rw (c.in-Ok-make_problem.ensures, c.in-Ok-make_labels.ensures)
+    (labels-due c.args.options.now c.args.arc_roles.now c.args.arc_table.now (roles_or_none c.args.node_roles) (table_or_none c.args.node_table) _ due
     (fit c.args.options.now (joined_below (length c.in-Ok.arcs.keys) (column_at c.args.options.now.maximize c.in-Ok.arcs.keys c.in-Ok.arcs.figures.items)) c.in-Ok.arcs.nodes.given c.in-Ok.arcs.nodes.names
     (joined_below (length c.in-Ok.arcs.keys) (name_at c.in-Ok.arcs.keys)) c.args.arc_roles.now.ids c.args.arc_table.now values (columns ∙ sym names) (names ∙ rows))
+    (record { text = c.width-width.ensures.text; own = c.width-width.ensures.names; below = c.requires.arc_columns.ids; left = c.ids-ids.ensures.from_left }))
