@@ -12,3 +12,4 @@ pub mod ReadyFacts
 pub mod DenseWhole
 pub mod PlainFacts
 pub mod DueFacts
+pub mod TextFacts

@@ -1,6 +1,6 @@
 //! Dense CONDATA: a row for each constraint, a column for each variable.
 ghost use Rattle.std.specs.Prelude.{◌≡◌, ◌⊎◌, ◌≤◌, None, Ok, Err, IfOk, MatchResult, length, map};
-ghost use Rattle.nf_labels.specs.Labels.{AreNumbered};
+ghost use Rattle.nf_labels.specs.Labels.{AreLabelsOf, AreNumbered};
 ghost use Rattle.nf_roles.specs.Roles.{HasColumnsBelow};
 ghost use Rattle.nf_cons.specs.Dense.{Dense, dense_row, first_row_fault, givens, names, sides};
 ghost use Rattle.nf_cons.specs.Due.{IsNetworkOf, dense_constraints, dense_due, dense_fault};
@@ -55,6 +55,7 @@ pub fn dense(
         (λ e. (e.kind ≡ DataKind.NoMemory)
         ⊎ (dense_due options.now (record { program = builder.old; labels = labels.old }) roles.now table.now ≡ Err e)) }
     ensures fit { IfOk result (λ _. AreNumbered labels.new builder.new) }
+    ensures labelled { IfOk result (λ _. AreLabelsOf labels.old builder.old → AreLabelsOf labels.new builder.new) }
 {
     let constraints = match read_dense(alloc, labels, roles, table, options) {
         Ok(constraints) => constraints,
