@@ -9,3 +9,4 @@ pub mod ReadyLines
 pub mod ApartLines
 pub mod WholeLines
 pub mod SparseFacts
+pub mod TextFacts

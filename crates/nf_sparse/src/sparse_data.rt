@@ -1,6 +1,6 @@
 //! Sparse CONDATA: a line for each coefficient.
 ghost use Rattle.std.specs.Prelude.{◌≡◌, ◌⊎◌, ◌≤◌, ◌<◌, ◌^◌, None, Ok, Err, IfOk, MatchResult, length};
-ghost use Rattle.nf_labels.specs.Labels.{AreNumbered};
+ghost use Rattle.nf_labels.specs.Labels.{AreLabelsOf, AreNumbered};
 ghost use Rattle.nf_roles.specs.Roles.{HasColumnsBelow};
 ghost use Rattle.nf_cons.specs.Due.{IsNetworkOf};
 ghost use Rattle.nf_cons.specs.Making.{AreConstraints};
@@ -52,6 +52,7 @@ pub fn sparse(
         (λ e. (e.kind ≡ DataKind.NoMemory)
         ⊎ (sparse_due options.now (record { program = builder.old; labels = labels.old }) roles.now table.now ≡ Err e)) }
     ensures fit { IfOk result (λ _. AreNumbered labels.new builder.new) }
+    ensures labelled { IfOk result (λ _. AreLabelsOf labels.old builder.old → AreLabelsOf labels.new builder.new) }
 {
     let constraints = match read_sparse(alloc, labels, roles, table, options) {
         Ok(constraints) => constraints,

@@ -3,6 +3,7 @@ use Rattle.nf_network.specs.Network.{Network}
 use Rattle.nf_cons.specs.Variables.{arcs_of}
 use Rattle.nf_cons.proofs.DueFacts.{arcs-number, constrained-fit}
 use Rattle.nf_sparse.proofs.SparseFacts.{sparse-answered, sparse-ordered, sparse-told}
+use Rattle.nf_sparse.proofs.TextFacts.{sparse-labels}
 use Rattle.nf_cons.proofs.PlainFacts.{plain-of}
 use Rattle.nf_sparse.proofs.sparse_data.sparse.Goals as goal
 
@@ -38,3 +39,10 @@ returns-in-Ok-add_constraints-clause-fit c =
     let n : Network = record { program = c.args.builder.now; labels = c.args.labels.now } in
     rw (c.in-Ok-add_constraints.ensures.program, c.in-Ok-add_constraints.ensures.labels)
     (constrained-fit c.args.options.now n (plain-of c.args.options.now n c.requires.network) c.in-Ok.constraints.variables c.in-Ok.constraints.names c.in-Ok.constraints.sides.items c.in-Ok.constraints.terms)
+
+pub returns-in-Ok-add_constraints-clause-labelled : goal.returns-in-Ok-add_constraints-clause-labelled
+returns-in-Ok-add_constraints-clause-labelled c =
+    let n : Network = record { program = c.args.builder.now; labels = c.args.labels.now } in
+    let fit = constrained-fit c.args.options.now n (plain-of c.args.options.now n c.requires.network) c.in-Ok.constraints.variables c.in-Ok.constraints.names c.in-Ok.constraints.sides.items c.in-Ok.constraints.terms in
+    rw (c.in-Ok-add_constraints.ensures.program, c.in-Ok-add_constraints.ensures.labels)
+    (sparse-labels c.args.options.now n c.args.roles.now c.args.table.now c.in-Ok.ensures.0 _ _ _ _ c.in-Ok.ensures.1 _ fit)
