@@ -183,7 +183,7 @@ lent-header (Some t) = refl
 
 -- the problem of its tables, behind the roles of ARCDATA
 module _ (p : Program) (a : Grid) (nodes : Option Grid) (o : Option (Bor Grid)) where
-  arc-roles : Result RoleColumns ProblemRefusal
+  abbrev arc-roles : Result RoleColumns ProblemRefusal
   arc-roles = in_roles Arcdata (roles_due Arcs a.header (header_of o) p.roles)
 
   here-then : (P : Result Network ProblemRefusal → Type 0) → P (then_with arc-roles (λ x. with_nodes p x a nodes (option_copied o))) → P (problem_in p a nodes (option_copied o))
@@ -214,23 +214,26 @@ network-posed r n h = (n, ap in_data h, refl)
 
 -- the problem with CONDATA, behind the roles of ARCDATA and NODEDATA
 module _ (p : Program) (ar : RoleColumns) (a : Grid) (nr : RoleColumns) (t cons : Grid) where
-  cons-roles : Result RoleColumns ProblemRefusal
+  abbrev cons-roles : Result RoleColumns ProblemRefusal
   cons-roles = in_roles Condata (roles_due (layout p.proc) cons.header [] p.roles)
 
-  network : Result Network DataFault
+  abbrev network : Result Network DataFault
   network = network_due p.proc ar a nr t
 
-  added : RoleColumns → Network → Result Network ProblemRefusal
+  abbrev added : RoleColumns → Network → Result Network ProblemRefusal
   added r n = in_data (with_constraints p.proc n r cons)
 
+  abbrev behind : RoleColumns → Result Network ProblemRefusal
+  behind r = then_with (in_data network) (λ n. then_with (added r n) in_size)
+
   pub cons-stops-first : (s : Stop) → IsStopOf cons-roles s → IsStopOf (with_cons p ar a nr t (Some cons)) s
-  cons-stops-first s h = first-stop cons-roles _ s h
+  cons-stops-first s h = first-stop cons-roles behind s h
 
   pub cons-stops-network : (r : RoleColumns) (s : Stop) → cons-roles ≡ Ok r → IsStopOf (in_data network) s → IsStopOf (with_cons p ar a nr t (Some cons)) s
-  cons-stops-network r s h k = next-stop cons-roles r _ s h (first-stop (in_data network) _ s k)
+  cons-stops-network r s h k = next-stop cons-roles r behind s h (first-stop (in_data network) (λ n. then_with (added r n) in_size) s k)
 
   pub cons-stops : (r : RoleColumns) (n : Network) (s : Stop) → cons-roles ≡ Ok r → network ≡ Ok n → IsStopOf (then_with (added r n) in_size) s → IsStopOf (with_cons p ar a nr t (Some cons)) s
-  cons-stops r n s h k l = next-stop cons-roles r _ s h (next-stop (in_data network) n _ s (ap in_data k) l)
+  cons-stops r n s h k l = next-stop cons-roles r behind s h (next-stop (in_data network) n (λ m. then_with (added r m) in_size) s (ap in_data k) l)
 
   pub cons-posed : (r : RoleColumns) (n : Network) (q : LinearProgram) → cons-roles ≡ Ok r → network ≡ Ok n → IsPosed (then_with (added r n) in_size) q → IsPosed (with_cons p ar a nr t (Some cons)) q
-  cons-posed r n q h k l = next-posed cons-roles r _ q h (next-posed (in_data network) n _ q (ap in_data k) l)
+  cons-posed r n q h k l = next-posed cons-roles r behind q h (next-posed (in_data network) n (λ m. then_with (added r m) in_size) q (ap in_data k) l)

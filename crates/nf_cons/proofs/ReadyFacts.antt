@@ -120,7 +120,7 @@ cell-apart d k i = by_cell (cell_at d k i)
     by_cell Bad = refl
     by_cell (Is x) = by_type (is_side (type_at d k)) refl x
 
-coefs-more : (gs hs : List Given) → coefs (gs ++ hs) ≡ coefs gs ++ coefs hs
+pub coefs-more : (gs hs : List Given) → coefs (gs ++ hs) ≡ coefs gs ++ coefs hs
 coefs-more gs hs = flat_map-append coefficient_of gs hs
 
 module _ (d : Dense) (m : ℕ) (inside : (i : ℕ) → i < length d.variables → get_or d.variables i 0 < m) where
@@ -146,7 +146,7 @@ any-none : (p : Coefficient → Bool) (cs : List Coefficient) → All (λ c. p c
 any-none p [] h = refl
 any-none p (c ∷ cs) h = rw (All-head (λ q. p q ≡ false) c cs h) (any-none p cs (All-tail (λ q. p q ≡ false) c cs h))
 
-apart-append : (xs ys : List Coefficient) → are_apart xs ≡ true → are_apart ys ≡ true → All (λ y. All (λ x. same_place x y ≡ false) xs) ys → are_apart (xs ++ ys) ≡ true
+pub apart-append : (xs ys : List Coefficient) → are_apart xs ≡ true → are_apart ys ≡ true → All (λ y. All (λ x. same_place x y ≡ false) xs) ys → are_apart (xs ++ ys) ≡ true
 unfolding are_apart
 apart-append [] ys hx hy h = hy
 apart-append (x ∷ xs) ys hx hy h = by_cases (cases_Bool (list_any (same_place x) xs)) (apart-append xs ys)

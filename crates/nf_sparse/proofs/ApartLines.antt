@@ -18,37 +18,11 @@ use Rattle.nf_cons.specs.Making.{are_apart, same_place}
 use Rattle.nf_cons.specs.Terms.{Given, coefficient_of}
 use Rattle.nf_cons.specs.Types.{is_side}
 use Rattle.nf_cons.proofs.NameFacts.{has-front}
-use Rattle.nf_cons.proofs.ReadyFacts.{coefs}
+use Rattle.nf_cons.proofs.ReadyFacts.{apart-append, coefs, coefs-more}
 use Rattle.nf_sparse.specs.Sparse.{Sparse, constraint_at, given_at, givens, has_coefficient, has_pair, line_at, line_term, pair_at, pairs, row_names, row_number, row_of, row_type_of, same_pair, side_number_at, side_numbers, sides, type_at, variable_number}
 use Rattle.nf_sparse.proofs.AfterFacts.{joined-front, names-front, name-there, row-next}
 use Rattle.nf_sparse.proofs.ReadyLines.{no_side, side-placed}
 use Rattle.nf_sparse.proofs.TypedFacts.{get-front, numbers-length}
-
--- ---- lists of coefficients
-coefs-more : (gs hs : List Given) → coefs (gs ++ hs) ≡ coefs gs ++ coefs hs
-coefs-more gs hs = flat_map-append coefficient_of gs hs
-
-any-none : (p : Coefficient → Bool) (cs : List Coefficient) → All (λ c. p c ≡ false) cs → list_any p cs ≡ false
-any-none p [] h = refl
-any-none p (c ∷ cs) h = rw (All-head (λ q. p q ≡ false) c cs h) (any-none p cs (All-tail (λ q. p q ≡ false) c cs h))
-
-apart-append : (xs ys : List Coefficient) → are_apart xs ≡ true → are_apart ys ≡ true → All (λ y. All (λ x. same_place x y ≡ false) xs) ys → are_apart (xs ++ ys) ≡ true
-unfolding are_apart
-apart-append [] ys hx hy h = hy
-apart-append (x ∷ xs) ys hx hy h = by_cases (cases_Bool (list_any (same_place x) xs)) (apart-append xs ys)
-  where
-    first : All (λ y. same_place x y ≡ false) ys
-    first = All-weaker (λ y. All (λ q. same_place q y ≡ false) (x ∷ xs)) (λ y. same_place x y ≡ false) (λ y q. All-head (λ e. same_place e y ≡ false) x xs q) ys h
-
-    rest : All (λ y. All (λ q. same_place q y ≡ false) xs) ys
-    rest = All-weaker (λ y. All (λ q. same_place q y ≡ false) (x ∷ xs)) (λ y. All (λ q. same_place q y ≡ false) xs) (λ y q. All-tail (λ e. same_place e y ≡ false) x xs q) ys h
-
-    by_cases : (list_any (same_place x) xs ≡ true) ⊎ (list_any (same_place x) xs ≡ false)
-        → (are_apart xs ≡ true → are_apart ys ≡ true → All (λ y. All (λ q. same_place q y ≡ false) xs) ys → are_apart (xs ++ ys) ≡ true) → are_apart ((x ∷ xs) ++ ys) ≡ true
-    by_cases (inl e) before = absurd (false≢true (rw e at hx))
-    by_cases (inr e) before =
-        let old : are_apart xs ≡ true = rw e at hx in
-        rw (list_any-append (same_place x) xs ys, e, any-none (same_place x) ys first) (before old hy rest)
 
 -- ---- a line
 -- A line gives one coefficient at most.

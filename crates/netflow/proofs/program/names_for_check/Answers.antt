@@ -11,3 +11,6 @@ text_of-certdata-requires c = record { text = some-holds c.args.program.now.proc
 
 pub text_of-requires : goal.text_of-requires
 text_of-requires c = record { text = some-holds c.args.program.now.proc.nodedata ((names_are_text Check c.requires.read.0 c.args.program.now c.requires.read.1).nodedata) }
+
+pub text_of-requires-2 : goal.text_of-requires-2
+text_of-requires-2 c = record { text = some-holds c.args.program.now.proc.condata ((names_are_text Check c.requires.read.0 c.args.program.now c.requires.read.1).condata) }

@@ -8,3 +8,6 @@ text_of-requires c = record { text = some-holds c.args.program.now.proc.arcdata 
 
 pub text_of-requires-2 : goal.text_of-requires-2
 text_of-requires-2 c = record { text = some-holds c.args.program.now.proc.nodedata ((names_are_text Run c.requires.read.0 c.args.program.now c.requires.read.1).nodedata) }
+
+pub text_of-requires-3 : goal.text_of-requires-3
+text_of-requires-3 c = record { text = some-holds c.args.program.now.proc.condata ((names_are_text Run c.requires.read.0 c.args.program.now c.requires.read.1).condata) }

@@ -17,7 +17,7 @@ returns-clause-posed g c =
       sets_of c.in_ok-sets.sets,
       c.in_ok-sets.ensures.ok,
       poses Run (sets_of c.in_ok-sets.sets) _ c.args.program.now c.args.program.now problem
-          (run-tables (sets_of c.in_ok-sets.sets) _ _ c.in_ok-arcs.ensures.arcs c.in_ok-arcs.ensures.nodes) refl h,
+          (run-tables (sets_of c.in_ok-sets.sets) _ _ _ c.in_ok-arcs.ensures.arcs c.in_ok-arcs.ensures.nodes c.in_ok-arcs.ensures.cons) refl h,
     ))
 
 pub returns-clause-stops : goal.returns-clause-stops
@@ -25,7 +25,7 @@ returns-clause-stops g c =
     err-then c.pose.result c.pose.ensures.stops
     (λ stop h i saw named e.
     refuses i Run (sets_of c.in_ok-sets.sets) _ c.args.program.now (record { names = _; named = named; held = held-there i Run _ _ _ saw.held c.in_ok-sets.ensures.ok })
-    (run-tables (sets_of c.in_ok-sets.sets) _ _ c.in_ok-arcs.ensures.arcs c.in_ok-arcs.ensures.nodes) e stop h)
+    (run-tables (sets_of c.in_ok-sets.sets) _ _ _ c.in_ok-arcs.ensures.arcs c.in_ok-arcs.ensures.nodes c.in_ok-arcs.ensures.cons) e stop h)
 
 pub returns-in_err-sets-clause-stops : goal.returns-in_err-sets-clause-stops
 returns-in_err-sets-clause-stops g c =

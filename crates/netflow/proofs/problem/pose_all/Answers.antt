@@ -1,0 +1,15 @@
+use Rattle.nf_network.specs.Network.{roles_or_none, table_or_none}
+use Rattle.netflow.proofs.StopFacts.{cons-posed, cons-stops, err-then, ok-then, sized-posed, sized-stop}
+use Rattle.netflow.proofs.problem.pose_all.Goals as goal
+
+pub returns-clause-ok : goal.returns-clause-ok
+returns-clause-ok c =
+    ok-then c.sized.result c.sized.ensures.ok
+    (λ q h. cons-posed c.args.program.now c.args.roles.now c.args.arcs.now (roles_or_none c.args.node_roles) (table_or_none c.args.nodes) c.args.cons.now c.in_ok-cons_roles.cons_roles _ q
+    c.in_ok-cons_roles.ensures.ok c.in_ok-builder.ensures.ok (sized-posed _ c.in_ok-whole.whole q c.in_ok-whole.ensures.ok h))
+
+pub returns-clause-stops : goal.returns-clause-stops
+returns-clause-stops c =
+    err-then c.sized.result c.sized.ensures.stops
+    (λ s h. cons-stops c.args.program.now c.args.roles.now c.args.arcs.now (roles_or_none c.args.node_roles) (table_or_none c.args.nodes) c.args.cons.now c.in_ok-cons_roles.cons_roles _ s
+    c.in_ok-cons_roles.ensures.ok c.in_ok-builder.ensures.ok (sized-stop _ c.in_ok-whole.whole s c.in_ok-whole.ensures.ok h))
