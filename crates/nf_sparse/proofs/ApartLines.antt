@@ -1,11 +1,10 @@
 -- The coefficients of sparse CONDATA: their numbers are in range, and no coefficient is given twice.
-use Rattle.std.proofs.Common.{◌≡◌, ◌<◌, ◌≤◌, ◌+◌, ◌++◌, ◌∷◌, ◌||◌, ◌⊎◌, ◌∙◌, ℕ, zero, suc, Bool, true, false, List, [], length, get_or, nat_eq, refl, sym, ap, inl, inr, arith}
+use Rattle.std.proofs.Common.{◌≡◌, ◌<◌, ◌≤◌, ◌+◌, ◌∷◌, ◌||◌, ◌⊎◌, ◌∙◌, ℕ, zero, suc, Bool, true, false, [], length, get_or, nat_eq, refl, sym, ap, inl, inr, arith}
 use Rattle.std.proofs.lemmas.Bool.{false≢true, cases_Bool}
 use Rattle.std.proofs.lemmas.Bool.Decides.{Decides-eqb}
-use Rattle.std.proofs.lemmas.List.Elements.{All-append, All-cons, All-head, All-nil, All-tail, All-weaker}
+use Rattle.std.proofs.lemmas.List.Elements.{All-append, All-cons, All-nil, All-weaker}
 use Rattle.std.proofs.lemmas.List.Folds.{list_any-append}
-use Rattle.std.proofs.lemmas.Grind.{flat_map-append}
-use Rattle.std.specs.List.{All, list_any}
+use Rattle.std.specs.List.{All}
 use Rattle.nf_frac.specs.declared.amount.Amount.{Amount}
 use Rattle.nf_cells.specs.Names.{has_name}
 use Rattle.nf_cells.specs.declared.values.Bound.{Bound}
@@ -15,7 +14,6 @@ use Rattle.nf_network.specs.Arcs.{said}
 use Rattle.nf_network.proofs.Lists.{joined-more, joined-none}
 use Rattle.nf_cons.specs.declared.taken.Coefficient.{Coefficient}
 use Rattle.nf_cons.specs.Making.{are_apart, same_place}
-use Rattle.nf_cons.specs.Terms.{Given, coefficient_of}
 use Rattle.nf_cons.specs.Types.{is_side}
 use Rattle.nf_cons.proofs.NameFacts.{has-front}
 use Rattle.nf_cons.proofs.ReadyFacts.{apart-append, coefs, coefs-more}

@@ -10,6 +10,3 @@ mod sparse_line;
 mod typed;
 
 pub use sparse_data::sparse;
-
-#[cfg(test)]
-mod tests;
