@@ -3,14 +3,14 @@
 
     python3 tests/condata_faults.py --netflow crates/netflow/out/netflow
 
-Each case runs `netflow run` in a folder of its own. What is expected is typed by hand from the order of checks in the
-documents; no expected value comes from the program. A refusal must be the whole listing.
+Each case runs `netflow run`, and `netflow check` where there is a fault, in a folder of its own. What is expected is typed
+by hand from the order of checks in the documents; no expected value comes from the program. A refusal must be the whole
+listing.
 """
-import argparse
-import os
-import subprocess
 import sys
-import tempfile
+
+sys.dont_write_bytecode = True
+from cases import Cases, arguments, lines  # noqa: E402
 
 DENSE = "proc netflow arcdata=arcs condata=cons;"
 SPARSE = "proc netflow arcdata=arcs condata=cons sparsecondata;"
@@ -22,7 +22,7 @@ LONG_NAME = LONG + "_" + LONG
 
 
 def refused(row, column, kind):
-    return (4, ["DATA REFUSED CONDATA ROW %d COLUMN %s: %s" % (row, column, kind)])
+    return (4, "DATA REFUSED CONDATA ROW %d COLUMN %s: %s" % (row, column, kind))
 
 
 def many(count, text):
@@ -129,28 +129,18 @@ CASES = [
 ]
 
 
-def run(netflow, program, arcs, cons):
-    with tempfile.TemporaryDirectory() as folder:
-        for name, text in (("arcs", arcs), ("cons", cons)):
-            with open(os.path.join(folder, name + ".csv"), "w") as f:
-                f.write(text.replace("|", "\n") + "\n")
-        done = subprocess.run([netflow, "run"], input=(program + " run;").encode(), cwd=folder, capture_output=True)
-        return done.returncode, done.stdout.decode().splitlines(), done.stderr.decode()
-
-
 def main():
-    parser = argparse.ArgumentParser()
-    parser.add_argument("--netflow", required=True)
-    netflow = os.path.abspath(parser.parse_args().netflow)
-    failed = 0
+    t = Cases(arguments("The faults of CONDATA.").parse_args().netflow)
     for name, program, arcs, cons, (status, listing) in CASES:
-        got = run(netflow, program, arcs, cons)
-        same = got[0] == status and got[2] == "" and (listing is None or got[1] == listing)
-        if not same:
-            failed += 1
-            print("%s: expected %s %s, got %s" % (name, status, listing, got))
-    print("condata_faults: %d of %d passed" % (len(CASES) - failed, len(CASES)))
-    return 1 if failed else 0
+        sets = {"arcs": lines(arcs + "|", "|"), "cons": lines(cons + "|", "|"), "k": b"_ITEM_\n"}
+        got = t.run_on(sets, ["run"], (program + " run;").encode())
+        if listing is None:
+            t.count(got[0] == status and got[2] == "", name, got, "status %d" % status)
+            continue
+        t.expect(name, got, status, listing)
+        # for a check the same, before the certificate is looked at
+        t.expect("check of " + name, t.run_on(sets, ["check"], program.replace("condata=", "certdata=k condata=").encode()), status, listing)
+    return t.end()
 
 
 if __name__ == "__main__":

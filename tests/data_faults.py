@@ -6,11 +6,10 @@
 Each case runs in a folder of its own. The expected lines are written by hand from docs/FORMATS.md. A refusal must be the
 whole listing with status 4, and nothing may stand on standard error.
 """
-import argparse
-import os
-import subprocess
 import sys
-import tempfile
+
+sys.dont_write_bytecode = True
+from cases import Cases, arguments, lines  # noqa: E402
 
 ENDS = "_FROM_,_TO_"
 COSTS = "_FROM_,_TO_,_NAME_,_COST_,_LO_,_CAPAC_"
@@ -187,56 +186,31 @@ ACCEPTED = [
 ]
 
 
-def text(data):
-    return data.replace("/", "\n").encode("utf-8", "surrogateescape")
-
-
-def listing(netflow, command, options, roles, arcs, nodes, cert):
-    """Status and listing of the built program on data sets in a folder of their own."""
-    with tempfile.TemporaryDirectory() as folder:
-        program = "proc netflow arcdata=arcs"
-        for name, data in (("arcs", arcs), ("nodes", nodes), ("k", cert)):
-            if data is None:
-                continue
-            with open(os.path.join(folder, name + ".csv"), "wb") as f:
-                f.write(text(data))
-        if nodes is not None:
-            program += " nodedata=nodes"
-        if cert is not None:
-            program += " certdata=k"
-        program += " %s; %s %s" % (options, roles, "run;" if command == "run" else "")
-        done = subprocess.run([netflow, command], input=program.encode(), cwd=folder, capture_output=True, timeout=120)
-        return done.returncode, done.stdout.decode("utf-8", "surrogateescape"), done.stderr
+def listing(t, command, options, roles, arcs, nodes, cert):
+    """Status, listing and standard error of the built program on these data sets."""
+    sets = {name: lines(data, "/") for name, data in (("arcs", arcs), ("nodes", nodes), ("k", cert)) if data is not None}
+    given = "".join(" %s=%s" % (option, name) for option, name in (("nodedata", "nodes"), ("certdata", "k")) if name in sets)
+    program = "proc netflow arcdata=arcs%s %s; %s %s" % (given, options, roles, "run;" if command == "run" else "")
+    return t.run_on(sets, [command], program.encode())
 
 
 def main():
-    arguments = argparse.ArgumentParser()
-    arguments.add_argument("--netflow", required=True)
-    netflow = os.path.abspath(arguments.parse_args().netflow)
-    failed = 0
-    passed = 0
+    t = Cases(arguments("The faults of data.").parse_args().netflow)
 
     def expect(case, command, cert, status, wanted):
-        nonlocal failed, passed
-        got = listing(netflow, command, *case[:4], cert)
-        if got == (status, wanted, b""):
-            passed += 1
-        else:
-            failed += 1
-            print("FAILED %s %r\n  wanted %r\n  got    %r" % (command, [str(c)[:80] for c in case[:4]], (status, wanted), got))
+        t.expect("%s %r" % (command, [str(c)[:80] for c in case[:4]]), listing(t, command, *case[:4], cert), status, wanted)
 
     for case in CASES + LIMITS:
-        expect(case, "run", None, 4, "DATA REFUSED " + case[4] + "\n")
+        expect(case, "run", None, 4, "DATA REFUSED " + case[4])
     # for a check the same, where CERTDATA is a table; the fault of that table comes behind those of the others, and before
     # all roles and data
     for case in CASES:
-        expect(case, "check", "_ITEM_", 4, "DATA REFUSED " + case[4] + "\n")
+        expect(case, "check", "_ITEM_", 4, "DATA REFUSED " + case[4])
         of_table = any(word in case[4] for word in ("NoHeader", "RowLength", "NotText", "RepeatedColumn"))
-        expect(case, "check", "", 4, "DATA REFUSED " + (case[4] if of_table else "CERTDATA: NoHeader") + "\n")
+        expect(case, "check", "", 4, "DATA REFUSED " + (case[4] if of_table else "CERTDATA: NoHeader"))
     for case in ACCEPTED:
         expect(case, "run", None, 0, case[4])
-    print("%d passed, %d failed" % (passed, failed))
-    return 1 if failed else 0
+    return t.end()
 
 
 if __name__ == "__main__":

@@ -1,25 +1,36 @@
 #!/usr/bin/env python3
-"""The built program on real files: the shipped example, changes that must be refused, and input with faults.
+"""The built program on real files: the shipped examples, changes that must be refused, and input with faults.
 
     python3 tests/real_files.py --netflow crates/netflow/out/netflow
 
 Each case runs in a folder of its own. What is expected is typed from docs/FORMATS.md and the READMEs of examples/.
 A refusal must be the whole listing, and nothing may stand on standard error.
 """
-import argparse
 import csv
 import os
 import shutil
-import subprocess
 import sys
 import tempfile
 from fractions import Fraction
+
+sys.dont_write_bytecode = True
+from cases import USAGE, Cases, arguments  # noqa: E402
 
 TOP = os.path.dirname(os.path.dirname(os.path.abspath(__file__)))
 EXAMPLE = os.path.join(TOP, "examples", "distribution")
 ACCEPTED = (0, "ACCEPTED OPTIMAL\nTOTAL COST 725\n")
 PROGRAM = b"proc netflow arcdata=arcs nodedata=nodes certdata=certificate;"
-USAGE = "USAGE netflow run | netflow check | netflow sample SEED NODES ARCS CONS"
+
+# a folder of examples/, the file with the program, the command, the whole listing or the file that has it, and a data set
+# that is stored, as the folder has it
+EXAMPLES = [
+    ("distribution", "program.txt", "check", "listing.txt", None),
+    ("distribution", "program.txt", "check", "ACCEPTED OPTIMAL\nTOTAL COST 725\n", None),
+    ("distribution", "solve.txt", "run", "OPTIMAL\nTOTAL COST 725\nSTAGE 1 PIVOTS 15\nSTAGE 2 PIVOTS 0\n", None),
+    ("refinery", "program.txt", "run", "listing.txt", None),
+    ("production", "program.txt", "run", "listing.txt", "plan.csv"),
+    ("production", "check.txt", "check", "ACCEPTED OPTIMAL\nTOTAL COST 5960\n", None),
+]
 
 # file, text that stands there once, text in its place, status, listing
 ONE_CHANGE = [
@@ -133,32 +144,19 @@ WHOLE_FILE = [
 WORDS = [[], ["run", "run"], ["Run"], ["run "], ["sample", "1", "3", "3", "0"], ["check", "check"], ["CHECK"], ["check "], [""], ["--help"], ["-"]]
 
 
-class Runner:
-    """Runs cases in fresh copies of the example, and counts."""
+def check(t, folder, words=("check",), **more):
+    """The program's answer in a copy of the example."""
+    return t.run(folder, words, bytes_of(folder, "program.txt"), **more)
 
-    def __init__(self, program):
-        self.program, self.passed, self.failed = os.path.abspath(program), 0, 0
 
-    def run(self, folder, words=("check",), out=subprocess.PIPE):
-        with open(os.path.join(folder, "program.txt"), "rb") as text:
-            done = subprocess.run([self.program, *words], stdin=text, stdout=out, stderr=subprocess.PIPE, cwd=folder, timeout=120)
-        return done.returncode, (done.stdout or b"").decode("utf-8", "replace"), done.stderr.decode("utf-8", "replace")
+def bytes_of(folder, name):
+    with open(os.path.join(folder, name), "rb") as f:
+        return f.read()
 
-    def expect(self, what, got, status, listing):
-        listing = listing if listing.endswith("\n") or not listing else listing + "\n"
-        if got == (status, listing, ""):
-            self.passed += 1
-        else:
-            self.failed += 1
-            print("FAILED %s: status %d, listing %r, standard error %r; expected %d, %r" % (what, *got, status, listing))
 
-    def refused(self, what, got):
-        """Refused as a certificate, by one line."""
-        if got[0] == 9 and got[1].startswith("REFUSED ") and got[1].count("\n") == 1 and got[2] == "":
-            self.passed += 1
-        else:
-            self.failed += 1
-            print("FAILED %s: status %d, listing %r, standard error %r; expected a refusal" % (what, *got))
+def expect_refusal(t, what, got):
+    """Refused as a certificate, by one line."""
+    t.count(got[0] == 9 and got[1].startswith("REFUSED ") and got[1].count("\n") == 1 and got[2] == "", what, got, "a refusal")
 
 
 class Copy:
@@ -192,29 +190,19 @@ class Copy:
             f.write(text.replace(old, new))
 
 
-def shipped_example(t):
-    with open(os.path.join(EXAMPLE, "listing.txt"), encoding="utf-8") as f:
-        listing = f.read()
-    with Copy() as c:
-        t.expect("the example", t.run(c.folder), 0, listing)
-    t.expect("the listing of the README", (0, listing, ""), *ACCEPTED)
-
-
-def worked_runs(t):
-    """The examples that are run: their listings, and the certificate that is stored, which is accepted."""
-    for name, stored in (("refinery", None), ("production", "plan.csv")):
+def examples(t):
+    """The examples as they are shipped, with the listings that their READMEs show."""
+    for name, program, command, listing, stored in EXAMPLES:
         example = os.path.join(TOP, "examples", name)
         with tempfile.TemporaryDirectory() as folder:
             for file in os.listdir(example):
                 if file != stored:
                     shutil.copy(os.path.join(example, file), folder)
-            with open(os.path.join(example, "listing.txt"), encoding="utf-8") as f:
-                t.expect("the example %s" % name, t.run(folder, ["run"]), 0, f.read())
+            due = bytes_of(example, listing).decode() if listing.endswith(".txt") else listing
+            t.expect("%s of %s" % (program, name), t.run(folder, [command], bytes_of(folder, program)), 0, due)
             if stored:
-                with open(os.path.join(example, stored), "rb") as want, open(os.path.join(folder, stored), "rb") as got:
-                    t.expect("the certificate of %s" % name, (0, got.read().decode(), ""), 0, want.read().decode())
-                os.replace(os.path.join(folder, "check.txt"), os.path.join(folder, "program.txt"))
-                t.expect("the check of %s" % name, t.run(folder), 0, "ACCEPTED OPTIMAL\nTOTAL COST 5960")
+                got, want = bytes_of(folder, stored), bytes_of(example, stored)
+                t.count(got == want, "%s of %s" % (stored, name), got, want)
 
 
 def each_number(t):
@@ -227,7 +215,7 @@ def each_number(t):
                 changed = [list(row) for row in rows]
                 changed[n][2] = str(Fraction(rows[n][2]) + step)
                 c.write("certificate.csv", changed)
-                t.refused("%s %s made %s" % (*rows[n][:2], changed[n][2]), t.run(c.folder))
+                expect_refusal(t, "%s %s made %s" % (*rows[n][:2], changed[n][2]), check(t, c.folder))
 
 
 def each_binding_capacity(t):
@@ -242,7 +230,7 @@ def each_binding_capacity(t):
                 changed = [list(row) for row in arcs]
                 changed[j][3] = str(int(arcs[j][3]) + step)
                 c.write("arcs.csv", changed)
-                t.refused("capacity of arc %d made %s" % (j, changed[j][3]), t.run(c.folder))
+                expect_refusal(t, "capacity of arc %d made %s" % (j, changed[j][3]), check(t, c.folder))
 
 
 def each_two_supplies(t):
@@ -256,24 +244,24 @@ def each_two_supplies(t):
                     changed = [list(row) for row in nodes]
                     changed[a][1], changed[b][1] = str(int(nodes[a][1]) + 1), str(int(nodes[b][1]) - 1)
                     c.write("nodes.csv", changed)
-                    t.refused("a unit more at %s, one less at %s" % (nodes[a][0], nodes[b][0]), t.run(c.folder))
+                    expect_refusal(t, "a unit more at %s, one less at %s" % (nodes[a][0], nodes[b][0]), check(t, c.folder))
 
 
 def tables(t):
     for name, old, new, status, listing in ONE_CHANGE:
         with Copy() as c:
             c.change(name, old, new)
-            t.expect("%s: %r for %r" % (name, new, old), t.run(c.folder), status, listing)
+            t.expect("%s: %r for %r" % (name, new, old), check(t, c.folder), status, listing)
     for name, content, status, listing in WHOLE_FILE:
         with Copy() as c:
             os.remove(c.path(name))
             if content is not None:
                 with open(c.path(name), "wb") as f:
                     f.write(content)
-            t.expect("%s with other bytes (%s)" % (name, listing), t.run(c.folder), status, listing)
+            t.expect("%s with other bytes (%s)" % (name, listing), check(t, c.folder), status, listing)
     for words in WORDS:
         with Copy() as c:
-            t.expect("words %r" % (words,), t.run(c.folder, words), 2, USAGE)
+            t.expect("words %r" % (words,), check(t, c.folder, words), 2, USAGE)
 
 
 def too_many_nodes(t):
@@ -284,7 +272,7 @@ def too_many_nodes(t):
             c.write("nodes.csv", [["_NODE_", "_SUPDEM_"]] + [["n%d" % i, "0"] for i in range(count)])
             c.write("certificate.csv", [["_ITEM_", "_NUMBER_", "_VALUE_"], ["VERDICT", "1", "OPTIMAL"]]
                     + [["ROW", str(i), "1/3"] for i in range(1, count + 1)])
-            t.expect("%d nodes" % count, t.run(c.folder), status, listing)
+            t.expect("%d nodes" % count, check(t, c.folder), status, listing)
 
 
 # options, ARCDATA behind its header `_FROM_,_TO_,_COST_,_CAPAC_`, NODEDATA behind its header or None, the certificate's rows,
@@ -313,7 +301,7 @@ def all_kinds(t):
                                ("program.txt", "proc netflow arcdata=arcs %scertdata=certificate %s;" % ("nodedata=nodes " if nodes else "", options))):
                 with open(c.path(name), "w", encoding="utf-8") as f:
                     f.write(text.replace("/", "\n"))
-            t.expect("%s of %s" % (rows, arcs), t.run(c.folder), status, listing)
+            t.expect("%s of %s" % (rows, arcs), check(t, c.folder), status, listing)
 
 
 def passes_the_range(t):
@@ -324,7 +312,7 @@ def passes_the_range(t):
         c.write("nodes.csv", [["_NODE_", "_SUPDEM_"]])
         c.write("certificate.csv", [["_ITEM_", "_NUMBER_", "_VALUE_"], ["VERDICT", "1", "OPTIMAL"], ["COL", "1", "0"], ["COL", "2", "0"],
                                     ["ROW", "1", most], ["ROW", "2", "-" + most]])
-        status, listing, error = t.run(c.folder)
+        status, listing, error = check(t, c.folder)
         begins = listing if listing.count("\n") != 1 else listing.split(":")[0]
         t.expect("numbers of 127 bits", (status, begins + "\n", error), 8, "RANGE PASSED CHECK")
 
@@ -335,24 +323,21 @@ def outside(t):
         with Copy() as c:
             os.remove(c.path(name))
             os.mkdir(c.path(name))
-            t.expect("%s is a folder" % name, t.run(c.folder), 5, "READ FAULT")
+            t.expect("%s is a folder" % name, check(t, c.folder), 5, "READ FAULT")
     if not os.path.exists("/dev/full"):
         print("there is no /dev/full here: the full device is left out")
         return
     for what, words in (("accepted", ["check"]), ("usage", ["runs"])):
         with Copy() as c, open("/dev/full", "wb") as full:
-            got = t.run(c.folder, words, full)
+            got = check(t, c.folder, words, out=full)
             t.expect("full device, %s" % what, got, 6, "")
 
 
 def main():
-    parser = argparse.ArgumentParser(description="The built program on real files.")
-    parser.add_argument("--netflow", required=True, help="the built program")
-    t = Runner(parser.parse_args().netflow)
-    for part in (shipped_example, worked_runs, each_number, each_binding_capacity, each_two_supplies, tables, too_many_nodes, all_kinds, passes_the_range, outside):
+    t = Cases(arguments("The built program on real files.").parse_args().netflow)
+    for part in (examples, each_number, each_binding_capacity, each_two_supplies, tables, too_many_nodes, all_kinds, passes_the_range, outside):
         part(t)
-    print("%d passed, %d failed" % (t.passed, t.failed))
-    return 1 if t.failed else 0
+    return t.end()
 
 
 if __name__ == "__main__":

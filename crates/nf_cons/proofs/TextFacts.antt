@@ -5,7 +5,7 @@ use Rattle.std.specs.Str.{IsUtf8}
 use Rattle.std.proofs.lemmas.Bool.{cases_Bool}
 use Rattle.std.proofs.lemmas.List.Elements.{All-append, All-cons, All-from_get_or, All-head, All-map, All-nil, All-tail, All-weaker}
 use Rattle.nf_model.specs.Program.{LinearProgram}
-use Rattle.nf_prob.specs.Labels.{AreLabelsOf, AreNumbered}
+use Rattle.nf_labels.specs.Labels.{AreLabelsOf, AreNumbered}
 use Rattle.nf_table.specs.Grid.{Grid}
 use Rattle.nf_cells.specs.Cells.{is_blank, is_name}
 use Rattle.nf_cells.specs.Names.{Name, has_name}

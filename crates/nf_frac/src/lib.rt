@@ -8,8 +8,6 @@ mod frac;
 mod passed;
 mod read;
 mod steps;
-#[cfg(test)]
-mod tests;
 mod text;
 mod whole;
 

@@ -22,5 +22,3 @@ pub use outside::{Library, Sink, Source};
 pub use text::Text;
 pub use whole::{read_all, write_all};
 
-#[cfg(test)]
-mod tests;

@@ -7,7 +7,7 @@ use Rattle.std.proofs.lemmas.List.Elements.{All-append, All-cons, All-from_get_o
 use Rattle.nf_frac.specs.Amounts.{amount_value}
 use Rattle.nf_frac.specs.Texts.{frac_text}
 use Rattle.nf_num.specs.Rational.{zero_ℚ}
-use Rattle.nf_prob.specs.Labels.{AreLabelsOf, AreNumbered, NodeText}
+use Rattle.nf_labels.specs.Labels.{AreLabelsOf, AreNumbered, NodeText}
 use Rattle.nf_table.specs.Grid.{Cells, Grid, HasOwnNames, IsText}
 use Rattle.nf_cells.specs.Names.{Name}
 use Rattle.nf_cells.specs.declared.values.Supply.{Supply}

@@ -12,8 +12,6 @@ mod problem;
 mod ray;
 mod reduced;
 mod stored;
-#[cfg(test)]
-mod tests;
 
 pub use builder::ProblemBuilder;
 pub use cert::{Cert, Checked, Why};

@@ -4,7 +4,7 @@ use Rattle.std.specs.List.{All}
 use Rattle.std.proofs.lemmas.Bool.{cases_Bool}
 use Rattle.std.proofs.lemmas.List.Elements.{All-cons, All-map, All-nil}
 use Rattle.nf_model.specs.Program.{LinearProgram}
-use Rattle.nf_prob.specs.Labels.{AreLabelsOf, AreNumbered}
+use Rattle.nf_labels.specs.Labels.{AreLabelsOf, AreNumbered}
 use Rattle.nf_table.specs.Grid.{Grid}
 use Rattle.nf_cells.specs.Names.{Name}
 use Rattle.nf_program.specs.declared.program.ProcOptions.{ProcOptions}

@@ -11,5 +11,3 @@ pub use reading::read_table;
 pub use table::{Table, TableFault};
 pub use writing::write_table;
 
-#[cfg(test)]
-mod tests;
