@@ -29,8 +29,9 @@ def network(nodes, arcs, r):
     return supply, rows
 
 
-def measured(netflow, text, folder):
-    """The listing, the seconds and the peak of memory in KB of one run, in a process of its own."""
+def measured(netflow, text, folder, statuses=(0,)):
+    """The listing, the seconds and the peak of memory in KB of one run, in a process of its own, that ends by one of these
+    statuses."""
     reader, writer = os.pipe()
     begun = time.perf_counter()
     child = os.fork()
@@ -45,7 +46,7 @@ def measured(netflow, text, folder):
     with os.fdopen(reader, "rb") as f:
         listing = f.read().decode()
     _, status, usage = os.wait4(child, 0)
-    assert status == 0, status
+    assert os.waitstatus_to_exitcode(status) in statuses, status
     return listing.splitlines(), time.perf_counter() - begun, usage.ru_maxrss
 
 

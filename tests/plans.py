@@ -61,7 +61,7 @@ class Plan:
         self.make_problem()
 
     def draw_network(self, r):
-        """Arcs with a flow within their bounds; the supplies are mostly those of that flow, or one of them is open."""
+        """Arcs with a flow within their bounds; the supplies are mostly those of that flow, and at times one is open."""
         nodes = ["n%d" % i for i in range(r.choice([2, 2, 3, 3, 4, 5]))]
         balance = dict.fromkeys(nodes, 0)
         self.arcs, self.arc_rows = {}, [["_FROM_", "_TO_", "_NAME_", "_COST_", "_LO_", "_CAPAC_"]]
@@ -75,8 +75,10 @@ class Plan:
             self.arc_rows.append([tail, head, name, draw_amount(r, -2, 9), str(least), most])
             balance[tail] += flow
             balance[head] -= flow
-        if r.random() < 0.15:
-            balance[r.choice(nodes)] += r.randint(-9, 9)
+        more = r.randint(1, 9)
+        for often, change in ((0.25, more), (0.2, -more)):
+            if r.random() < often:
+                balance[r.choice(nodes)] += change
         self.node_rows = [["_NODE_", "_SUPDEM_"]] + [[v, str(balance[v])] for v in nodes if balance[v] != 0 or r.random() < 0.5]
         if len(self.node_rows) > 1 and r.random() < 0.15:
             self.node_rows[-1][1] = r.choice([".S", ".D"])
