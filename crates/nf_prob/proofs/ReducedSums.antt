@@ -1,6 +1,5 @@
 -- The operations of a reduced cost by a column's entries arise in the row over all rows.
 use Rattle.std.proofs.Common.{◌≡◌, ℕ, zero, suc, ◌<◌, ◌-◌, List, length, map, refl, sym, ◌∙◌, ap, subst, arith, false}
-use Rattle.std.specs.List.{All}
 use Rattle.std.proofs.lemmas.List.{length-map}
 use Rattle.nf_num.specs.Rational.{ℚ, neg_ℚ}
 use Rattle.nf_frac.specs.declared.Passed.{Passed}

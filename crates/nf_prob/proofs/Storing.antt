@@ -1,5 +1,6 @@
 -- Stored rows and columns stay those of a network with one more of them.
-use Rattle.std.proofs.Common.{◌≡◌, ◌≢◌, ◌⊎◌, inl, inr, ℕ, zero, suc, ◌<◌, ◌≤◌, ◌+◌, ◌-◌, ◌^◌, List, [], ◌∷◌, ◌++◌, length, map, set, get_or, sym, ◌∙◌, ap, ap₂, subst, arith, length-append, add-one, Some, None, Bool, Vec, Global, Result, Ok, Err}
+use Rattle.std.proofs.Common.{◌≡◌, ◌≢◌, ◌⊎◌, inl, inr, ℕ, zero, suc, ◌<◌, ◌≤◌, ◌+◌, ◌-◌, ◌^◌, List, [], ◌∷◌, ◌++◌, length, map, set, get_or, sym, ◌∙◌, ap, ap₂, subst, arith, length-append, add-one, Some, None, Bool, Result, Ok, Err}
+use Rattle.smallvec.specs.SmallVec.{SmallVec}
 use Rattle.std.specs.Prelude.{IfErr}
 use Rattle.std.specs.List.{All}
 use Rattle.std.proofs.lemmas.List.{map-append, length-map, map-set, length-set, get_or-map, set-get_or}
@@ -96,20 +97,20 @@ no_column : Column
 no_column = record { cost = zero_ℚ; lower = None; upper = None; ends = None; entries = [] }
 
 -- a stored column with other entries
-abbrev pub entered : StoredColumn → Vec Entry Global → StoredColumn
+abbrev pub entered : StoredColumn → SmallVec Entry → StoredColumn
 entered c v = record { cost = c.cost; lower = c.lower; upper = c.upper; tail = c.tail; head = c.head; entries = v }
 
 column_read : (columns : List StoredColumn) (j : ℕ) (c : StoredColumn) (d : Column) → j < length columns → c ≡ get_or columns j c → get_or (map column_of columns) j d ≡ column_of c
 column_read columns j c d b read = get_or-map column_of columns j c d b ∙ ap column_of (sym read)
 
-pub with_entry_is : (columns : List StoredColumn) (rows : List StoredRow) (nodes arcs : ℕ) (m : Bool) (j i : ℕ) (value : ℚ) (c : StoredColumn) (v : Vec Entry Global) → j < length columns → c ≡ get_or columns j c → map entry_of v.items ≡ inserted (map entry_of c.entries.items) (record { row = i; value = value }) → with_entry (program_from columns rows nodes arcs m) j i value ≡ program_from (set columns j (entered c v)) rows nodes arcs m
+pub with_entry_is : (columns : List StoredColumn) (rows : List StoredRow) (nodes arcs : ℕ) (m : Bool) (j i : ℕ) (value : ℚ) (c : StoredColumn) (v : SmallVec Entry) → j < length columns → c ≡ get_or columns j c → map entry_of v.items ≡ inserted (map entry_of c.entries.items) (record { row = i; value = value }) → with_entry (program_from columns rows nodes arcs m) j i value ≡ program_from (set columns j (entered c v)) rows nodes arcs m
 with_entry_is columns rows nodes arcs m j i value c v b read es =
     ap (λ (cs : List Column). record { columns = cs; rows = map row_of rows; nodes = nodes; arcs = arcs; maximizes = m })
     (ap (λ (d : Column). set (map column_of columns) j (record d { entries = inserted d.entries (record { row = i; value = value }) })) (column_read columns j c _ b read)
     ∙ ap (λ (xs : List model.Entry). set (map column_of columns) j (record (column_of c) { entries = xs })) (sym es)
     ∙ sym (map-set column_of columns j (entered c v)))
 
-pub stored_entered : (columns : List StoredColumn) (rows : List StoredRow) (nodes arcs : ℕ) (m : Bool) (j row : ℕ) (value : ℚ) (c : StoredColumn) (v : Vec Entry Global) (p : LinearProgram) → program_from columns rows nodes arcs m ≡ p → j < length columns → c ≡ get_or columns j c → p.nodes < row → row ≤ length p.rows → IsNew p j (row - 1) → map entry_of v.items ≡ inserted (map entry_of c.entries.items) (record { row = row - 1; value = value }) → All (λ e. 0 < e.row) v.items → IsStored columns rows nodes arcs m → IsStored (set columns j (entered c v)) rows nodes arcs m
+pub stored_entered : (columns : List StoredColumn) (rows : List StoredRow) (nodes arcs : ℕ) (m : Bool) (j row : ℕ) (value : ℚ) (c : StoredColumn) (v : SmallVec Entry) (p : LinearProgram) → program_from columns rows nodes arcs m ≡ p → j < length columns → c ≡ get_or columns j c → p.nodes < row → row ≤ length p.rows → IsNew p j (row - 1) → map entry_of v.items ≡ inserted (map entry_of c.entries.items) (record { row = row - 1; value = value }) → All (λ e. 0 < e.row) v.items → IsStored columns rows nodes arcs m → IsStored (set columns j (entered c v)) rows nodes arcs m
 stored_entered columns rows nodes arcs m j row value c v p view b read above below fresh es positive s = record {
   problem = subst IsProblem (with_entry_is columns rows nodes arcs m j (row - 1) value c v b read es)
       (with_entry_keeps (program_from columns rows nodes arcs m) j (row - 1) value
@@ -127,7 +128,7 @@ stored_entered columns rows nodes arcs m j row value c v p view b read above bel
     kept = subst HasNumbers (sym read) (All-get_or HasNumbers columns j c b s.numbered)
 
 -- the same entries in another block of memory
-same_program : (columns : List StoredColumn) (rows : List StoredRow) (nodes arcs : ℕ) (m : Bool) (j : ℕ) (c : StoredColumn) (v : Vec Entry Global) → j < length columns → c ≡ get_or columns j c → v.items ≡ c.entries.items → program_from columns rows nodes arcs m ≡ program_from (set columns j (entered c v)) rows nodes arcs m
+same_program : (columns : List StoredColumn) (rows : List StoredRow) (nodes arcs : ℕ) (m : Bool) (j : ℕ) (c : StoredColumn) (v : SmallVec Entry) → j < length columns → c ≡ get_or columns j c → v.items ≡ c.entries.items → program_from columns rows nodes arcs m ≡ program_from (set columns j (entered c v)) rows nodes arcs m
 same_program columns rows nodes arcs m j c v b read es =
     ap (λ (cs : List Column). record { columns = cs; rows = map row_of rows; nodes = nodes; arcs = arcs; maximizes = m })
     (sym (set-get_or (map column_of columns) j no_column)
@@ -135,10 +136,10 @@ same_program columns rows nodes arcs m j c v b read es =
     ∙ ap (λ (xs : List Entry). set (map column_of columns) j (record (column_of c) { entries = map entry_of xs })) (sym es)
     ∙ sym (map-set column_of columns j (entered c v)))
 
-pub kept_program : (columns : List StoredColumn) (rows : List StoredRow) (nodes arcs : ℕ) (m : Bool) (j : ℕ) (c : StoredColumn) (v : Vec Entry Global) (p : LinearProgram) → program_from columns rows nodes arcs m ≡ p → j < length columns → c ≡ get_or columns j c → v.items ≡ c.entries.items → program_from (set columns j (entered c v)) rows nodes arcs m ≡ p
+pub kept_program : (columns : List StoredColumn) (rows : List StoredRow) (nodes arcs : ℕ) (m : Bool) (j : ℕ) (c : StoredColumn) (v : SmallVec Entry) (p : LinearProgram) → program_from columns rows nodes arcs m ≡ p → j < length columns → c ≡ get_or columns j c → v.items ≡ c.entries.items → program_from (set columns j (entered c v)) rows nodes arcs m ≡ p
 kept_program columns rows nodes arcs m j c v p view b read es = sym (same_program columns rows nodes arcs m j c v b read es) ∙ view
 
-pub stored_kept : (columns : List StoredColumn) (rows : List StoredRow) (nodes arcs : ℕ) (m : Bool) (j : ℕ) (c : StoredColumn) (v : Vec Entry Global) → j < length columns → c ≡ get_or columns j c → v.items ≡ c.entries.items → IsStored columns rows nodes arcs m → IsStored (set columns j (entered c v)) rows nodes arcs m
+pub stored_kept : (columns : List StoredColumn) (rows : List StoredRow) (nodes arcs : ℕ) (m : Bool) (j : ℕ) (c : StoredColumn) (v : SmallVec Entry) → j < length columns → c ≡ get_or columns j c → v.items ≡ c.entries.items → IsStored columns rows nodes arcs m → IsStored (set columns j (entered c v)) rows nodes arcs m
 stored_kept columns rows nodes arcs m j c v b read es s = record {
   problem = subst IsProblem (same_program columns rows nodes arcs m j c v b read es) s.problem;
   numbered = All-set HasNumbers columns j (entered c v) (record { ends = kept.ends; rows = subst (All (λ (e : Entry). 0 < e.row)) (sym es) kept.rows }) s.numbered;

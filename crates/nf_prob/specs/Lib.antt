@@ -10,3 +10,4 @@ pub mod Arising
 pub mod Verdict
 pub mod Greatest
 pub mod Reduced
+pub mod Blank

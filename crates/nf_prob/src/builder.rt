@@ -8,7 +8,7 @@ ghost use Rattle.nf_prob.specs.Numbers.{IsNumber, ends_of, entry_of};
 
 use crate::lists::row_lists;
 use crate::problem::Problem;
-use crate::stored::{Entry, StoredColumn, StoredRow};
+use crate::stored::{Entries, Entry, StoredColumn, StoredRow};
 use nf_frac::Frac;
 use nf_model::RowKind;
 use std::alloc::{AllocError, Global};
@@ -154,13 +154,13 @@ fn counted(arcs: u32, tail: u32) -> u32
 }
 
 // The node entries of a column with these ends.
-fn node_entries(alloc: Global, tail: u32, head: u32) -> Result<Vec<Entry>, AllocError>
+fn node_entries(alloc: Global, tail: u32, head: u32) -> Result<Entries, AllocError>
     requires ends { ((0 < tail) × (0 < head)) ⊎ ((tail ≡ 0) × (head ≡ 0)) }
     ensures entries { IfOk result (λ v. map entry_of v.items ≡ end_entries (ends_of tail head)) }
     ensures numbered { IfOk result (λ v. All (λ e. 0 < e.row) v.items) }
 {
     if tail == head {
-        return Ok(Vec::new(alloc));
+        return Ok(Entries::new(alloc));
     }
     let one = Frac::from_whole(1);
     let from = Entry {
@@ -178,17 +178,17 @@ fn node_entries(alloc: Global, tail: u32, head: u32) -> Result<Vec<Entry>, Alloc
     }
 }
 
-fn pair(alloc: Global, first: Entry, second: Entry) -> Result<Vec<Entry>, AllocError>
+fn pair(alloc: Global, first: Entry, second: Entry) -> Result<Entries, AllocError>
     ensures { IfOk result (λ v. v.items ≡ first ∷ second ∷ []) }
 {
-    let mut entries = Vec::with_capacity(alloc, 2)?;
+    let mut entries = Entries::new(alloc);
     entries.push(first)?;
     entries.push(second)?;
     Ok(entries)
 }
 
 // Puts an entry in its place by row number. Rows mostly come in their order, so the place is looked for from the end.
-fn insert_entry(entries: &mut Vec<Entry>, e: Entry) -> Result<(), AllocError>
+fn insert_entry(entries: &mut Entries, e: Entry) -> Result<(), AllocError>
     requires numbered { All (λ e. 0 < e.row) entries.old.items }
     requires by_row { (n : ℕ) × RiseBetween 0 n (map entry_of entries.old.items) }
     requires number { 0 < e.row }
@@ -198,7 +198,7 @@ fn insert_entry(entries: &mut Vec<Entry>, e: Entry) -> Result<(), AllocError>
     ensures kept { IfErr result (λ _. entries.new.items ≡ entries.old.items) }
 {
     let mut k = entries.len();
-    while k > 0 && e.row < entries[k - 1].row {
+    while k > 0 && e.row < entries.as_slice()[k - 1].row {
         k -= 1;
     }
     entries.insert(k, e)?;
