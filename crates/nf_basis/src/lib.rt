@@ -11,8 +11,6 @@ mod row_rest;
 mod slots;
 mod start;
 mod state;
-#[cfg(test)]
-mod tests;
 mod weights;
 
 pub use basis::{Basis, RestoreFault};

@@ -1,8 +1,8 @@
 //! Trials of the simplex method on random networks.
 //!
 //! After each step every number of the basis is computed again plainly, and the plan at the end is written as a
-//! certificate, read back and checked. The start of stage two is tried on one problem worked by hand. Nothing stands on
-//! this crate, which has no code but its tests.
+//! certificate, read back and checked. Bases are restored from places set by hand, and the start of stage two is tried on one
+//! problem worked by hand. Nothing stands on this crate, which has no code but its tests.
 #![tactic(auto)]
 
 #[cfg(test)]
@@ -11,6 +11,8 @@ mod networks;
 mod plain;
 #[cfg(test)]
 mod plans;
+#[cfg(test)]
+mod restored;
 #[cfg(test)]
 mod start;
 #[cfg(test)]

@@ -352,6 +352,28 @@ fn all_targets(alloc: Global, columns: &[Col], rows: u32) -> Result<Vec<Target>,
     Ok(targets)
 }
 
+// Fails unless the inverse columns, the entries of these columns and the duals of both phases are right.
+fn check_inverse<B: Basis, L: Ledger>(
+    alloc: Global,
+    p: &Problem,
+    basis: &mut B,
+    columns: &[Col],
+    steps: &mut Steps<L>,
+) -> Result<(), Fail>
+    requires numbers { B.HasNumbers p.now basis.old }
+    ensures numbers { IfOk result (λ _. B.HasNumbers p.now basis.new) }
+    ensures standing { IfOk result (λ _. B.standing basis.new ≡ B.standing basis.old) }
+{
+    let rows = rows_in(p, basis.state());
+    let basics = basic_columns(alloc, p, basis, rows)?;
+    let targets = all_targets(alloc, columns, rows)?;
+    let mut room = vec![in alloc; Frac::zero(); rows as usize]?;
+    let (basics, out) = (basics.as_slice(), room.as_mut_slice());
+    check_targets(p, basis, basics, targets.as_slice(), out, steps)?;
+    check_duals(p, basis, basics, Phase::One, out, steps)?;
+    check_duals(p, basis, basics, Phase::Two, out, steps)
+}
+
 /// Fails unless all numbers of a basis are right: the inverse columns, the entries of each column, the duals of both
 /// phases, and the values.
 pub(crate) fn check_numbers<B: Basis, L: Ledger>(
@@ -364,15 +386,8 @@ pub(crate) fn check_numbers<B: Basis, L: Ledger>(
     ensures numbers { IfOk result (λ _. B.HasNumbers p.now basis.new) }
     ensures standing { IfOk result (λ _. B.standing basis.new ≡ B.standing basis.old) }
 {
-    let rows = rows_in(p, basis.state());
     let columns = all_columns(alloc, p)?;
     check_bounds(p, basis, columns.as_slice())?;
     check_rows(p, basis, columns.as_slice(), steps)?;
-    let basics = basic_columns(alloc, p, basis, rows)?;
-    let targets = all_targets(alloc, columns.as_slice(), rows)?;
-    let mut room = vec![in alloc; Frac::zero(); rows as usize]?;
-    let (basics, out) = (basics.as_slice(), room.as_mut_slice());
-    check_targets(p, basis, basics, targets.as_slice(), out, steps)?;
-    check_duals(p, basis, basics, Phase::One, out, steps)?;
-    check_duals(p, basis, basics, Phase::Two, out, steps)
+    check_inverse(alloc, p, basis, columns.as_slice(), steps)
 }

@@ -1,4 +1,4 @@
-use Rattle.nf_trials.proofs.Present.{told_present}
+use Rattle.nf_basis.proofs.Wanted.{told_present}
 use Rattle.nf_trials.proofs.start.is_present.Goals as goal
 
 pub returns-in_default : goal.returns-in_default

@@ -1,7 +1,7 @@
 use Rattle.std.proofs.Common.{◌≡◌, sym, ◌∙◌}
 use Rattle.nf_basis.specs.declared.col.Place.TheVariants.{Lower, Absent}
 use Rattle.nf_basis.proofs.Wanted.{told_present}
-use Rattle.nf_basis.proofs.tests.with_basics.Goals as goal
+use Rattle.nf_trials.proofs.restored.with_basics.Goals as goal
 
 pub set_place-requires-clause-present : goal.set_place-requires-clause-present
 set_place-requires-clause-present c =
