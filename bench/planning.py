@@ -9,9 +9,10 @@ there are; for each month and store the same with space and rented space; and fo
 what is ordered. Overtime, rented space and orders are nonarc variables. The months differ, so that in some the machines do
 not suffice, and something is made early, bought or made in overtime. The same seed makes the same problems.
 
-The coefficients are whole numbers up to 9, tenths up to 9.9, or thousandths up to 9.999: how wide numbers get depends on
-that. bench/replay.py makes the same pivots in fractions without limit. Its verdict, pivots and cost must be those that the
-program prints, or its first number of more than 127 bits must stand where the program is refused.
+The coefficients are drawn from whole numbers up to 3 (small) or up to 9 (whole), from quarters up to 3.75, tenths up to 9.9 or
+thousandths up to 9.999: how wide numbers get depends on that. bench/replay.py makes the same pivots in fractions without
+limit. Its verdict, pivots and cost must be those that the program prints, or its first number of more than 127 bits must
+stand where the program is refused. Without --netflow there is the replay alone.
 """
 import argparse
 import csv
@@ -27,7 +28,8 @@ from solve import measured  # noqa: E402
 
 # constraints: months, products, regions, machines, stores, materials
 SIZES = {14: (6, 4, 2, 2, 0, 2), 50: (12, 6, 2, 3, 1, 2), 100: (12, 10, 2, 6, 2, 4)}
-GRAINS = {"whole": 1, "tenths": 10, "thousandths": 1000}
+# coefficients: the most of them in units, and units in 1
+GRAINS = {"small": (3, 1), "quarters": (15, 4), "whole": (9, 1), "tenths": (99, 10), "thousandths": (9999, 1000)}
 ARCS, NODES, CONS = ("_FROM_,_TO_,_NAME_,_COST_,_CAPAC_", "_NODE_,_SUPDEM_", "_ROW_,_COLUMN_,_COEF_,_TYPE_,_RHS_")
 
 
@@ -42,7 +44,7 @@ class Planning:
 
     def __init__(self, constraints, grain, seed):
         self.r = random.Random("%d %d %s" % (seed, constraints, grain))
-        self.grain = GRAINS[grain]
+        self.most, self.grain = GRAINS[grain]
         months, products, regions, machines, stores, materials = SIZES[constraints]
         self.arcs, self.supplies, self.rows, self.variables = {}, {"works": 0}, [], {}
         self.months, self.products, self.regions = range(months), range(products), range(regions)
@@ -100,7 +102,7 @@ class Planning:
 
     def coefficients(self):
         """What a piece of each product takes."""
-        return [Fraction(self.r.randint(1, 10 * self.grain - 1), self.grain) for _ in self.products]
+        return [Fraction(self.r.randint(1, self.most), self.grain) for _ in self.products]
 
     def add_limit(self, row, variable, coefficients, share, cost):
         """At most these hundredths of what the mean demand takes, and at a cost a quarter of that more."""
@@ -151,51 +153,55 @@ def stored_bits(folder):
     return max(max(abs(x.numerator), x.denominator).bit_length() for x in numbers)
 
 
-def replayed(plan, rule, lines):
-    """The widest numbers of the run, once the replay agrees with the program's listing."""
-    run = Run(plan.problem(), (rule, rule))
-    verdict = run.run()
-    cost = Fraction(*run.total_cost()) if verdict == "OPTIMAL" else None
-    if lines and lines[0].startswith("RANGE PASSED"):
-        due = "RANGE PASSED STAGE %d ITERATION %d:" % (run.meter.first_pass or (0, 0))
-        assert lines[0].startswith(due), (due, lines)
-    elif lines:
-        due = [verdict, "TOTAL COST %s" % cost, "STAGE 1 PIVOTS %d" % run.pivots[0], "STAGE 2 PIVOTS %d" % run.pivots[1]]
-        assert lines[:4] == due and run.meter.first_pass is None, (due, lines, run.meter.first_pass)
-    return run
-
-
-def row_of(netflow, plan, rule, replays):
-    """What is printed of one problem: nodes, columns, seconds, pivots of both stages, how the run ended, and the bits of the
-    widest number that was stored, that was met, and that was met inside an operation."""
+def listing_of(netflow, plan, rule):
+    """The listing of a run, its seconds, and the bits of the widest number that it stored."""
     program = "proc netflow arcdata=arcs nodedata=nodes condata=cons sparsecondata certout=k pricetype1=%s pricetype2=%s; run;" % (rule, rule)
     with tempfile.TemporaryDirectory() as folder:
         plan.write(folder)
         lines, took, _ = measured(netflow, program.encode(), folder, (0, 8))
-        is_best = lines[0] == "OPTIMAL"
-        stored = stored_bits(folder) if is_best else "-"
-    pivots = [line.split(" ")[3] for line in lines[2:4]] if is_best else ["-", "-"]
-    widest = replayed(plan, rule, lines).meter.bits() if replays else ("-", "-")
-    ended = lines[0] if is_best else lines[0].split(":")[0]
-    return [plan.node_count(), len(plan.arcs) + len(plan.variables), "%.2f" % took, *pivots, ended, stored, *widest]
+        return lines, "%.2f" % took, stored_bits(folder) if lines[0] == "OPTIMAL" else "-"
+
+
+def disagreement(run, verdict, cost, lines):
+    """What a listing should begin with, where it does not."""
+    if run.meter.first_pass:
+        due = ["RANGE PASSED STAGE %d ITERATION %d" % run.meter.first_pass]
+        return None if [lines[0].split(":")[0]] == due else due
+    due = [verdict, "TOTAL COST %s" % cost, "STAGE 1 PIVOTS %d" % run.pivots[0], "STAGE 2 PIVOTS %d" % run.pivots[1]]
+    return None if lines[:4] == due else due
+
+
+def row_of(netflow, plan, rule):
+    """What is printed of one problem: nodes, columns, pivots of both stages, seconds, how the run ended, and the bits of the
+    widest number that was stored, that was met, and that was met inside an operation."""
+    run = Run(plan.problem(), (rule, rule))
+    verdict = run.run()
+    cost = Fraction(*run.total_cost())
+    took = stored = "-"
+    if netflow:
+        lines, took, stored = listing_of(netflow, plan, rule)
+        due = disagreement(run, verdict, cost, lines)
+        if due:
+            sys.exit("the program prints %r, due is %r" % (lines, due))
+    ended = "RANGE PASSED after %d" % run.meter.first_pass[1] if run.meter.first_pass else verdict
+    return [plan.node_count(), len(plan.arcs) + len(plan.variables), *run.pivots, took, ended, stored, *run.meter.bits()]
 
 
 def main():
     parser = argparse.ArgumentParser(description="Time, pivots and width of numbers on planning problems.")
-    parser.add_argument("--netflow", required=True, help="the built program")
+    parser.add_argument("--netflow", help="the built program")
     parser.add_argument("--seed", type=int, default=1)
     parser.add_argument("--seeds", type=int, default=1, help="how many seeds, from this one on")
     parser.add_argument("--sizes", type=int, nargs="+", default=sorted(SIZES))
     parser.add_argument("--grains", nargs="+", default=list(GRAINS))
     parser.add_argument("--rule", default="first")
-    parser.add_argument("--no-replay", action="store_true", help="only runs the program")
     a = parser.parse_args()
-    netflow = os.path.abspath(a.netflow)
-    print("| Constraints | Coefficients | Nodes | Columns | Seconds | Pivots of stage 1 | of stage 2 | Ended | Bits stored | met | inside |\n|" + "---|" * 11)
+    netflow = a.netflow and os.path.abspath(a.netflow)
+    print("| Constraints | Coefficients | Nodes | Columns | Pivots of stage 1 | of stage 2 | Seconds | Ended | Bits stored | met | inside |\n|" + "---|" * 11)
     for size in a.sizes:
         for grain in a.grains:
             for seed in range(a.seed, a.seed + a.seeds):
-                row = row_of(netflow, Planning(size, grain, seed), a.rule, not a.no_replay)
+                row = row_of(netflow, Planning(size, grain, seed), a.rule)
                 print("| %s |" % " | ".join(str(x) for x in (size, grain, *row)), flush=True)
     return 0
 
