@@ -1,6 +1,6 @@
 use nf_io::{
-    DirLibrary, Failed, FetchFault, Library, PutFault, ReadAllFault, ReadSource, WriteSink, read_all,
-    write_all,
+    DirLibrary, Failed, FetchFault, Library, PutFault, ReadAllFault, ReadSource, WriteSink,
+    read_all, write_all,
 };
 use std::fs;
 use std::test::Fail;

@@ -1,7 +1,7 @@
 ghost use Rattle.std.specs.Prelude.{◌≤◌, length};
 
-use nf_table::{Table, TableFault, read_table};
 use nf_io::MOST_BYTES;
+use nf_table::{Table, TableFault, read_table};
 use std::alloc::{AllocError, Global};
 use std::str;
 use std::test::Fail;

@@ -10,4 +10,3 @@ pub use cell::{is_missing, trimmed};
 pub use name::{MOST_NAME_BYTES, is_name};
 pub use names::Names;
 pub use values::{Bound, Cell, Gives, Supply, amount_cell, bound_cell, name_cell, supply_cell};
-

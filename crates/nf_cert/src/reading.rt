@@ -30,12 +30,7 @@ pub fn read_cert(alloc: Global, table: &Table, p: &Problem) -> Result<Cert, Cert
 }
 
 // The certificate that a table gives for a problem of so many columns and rows.
-fn read_counted(
-    alloc: Global,
-    table: &Table,
-    columns: u32,
-    rows: u32,
-) -> Result<Cert, CertFault>
+fn read_counted(alloc: Global, table: &Table, columns: u32, rows: u32) -> Result<Cert, CertFault>
     requires few_columns { columns ≤ 2 ^ 30 }
     requires few_rows { rows ≤ 2 ^ 30 }
     ensures answer { (result ≡ Err CertFault.NoMemory) ⊎ (result ≡ cert_read table.now columns rows) }

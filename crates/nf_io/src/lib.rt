@@ -21,4 +21,3 @@ pub use memory::{MemLibrary, MemSink, MemSource};
 pub use outside::{Library, Sink, Source};
 pub use text::Text;
 pub use whole::{read_all, write_all};
-

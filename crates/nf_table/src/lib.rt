@@ -10,4 +10,3 @@ mod writing;
 pub use reading::read_table;
 pub use table::{Table, TableFault};
 pub use writing::write_table;
-
