@@ -14,4 +14,3 @@ pub mod Balanced
 pub mod OptionPass
 pub mod Whole
 pub mod Making
-pub mod ProblemOf

@@ -3,11 +3,15 @@ ghost use Rattle.std.specs.Prelude.{◌≡◌, ◌<◌, get_or, [], ◌∷◌, �
 ghost use Rattle.nf_network.specs.Keys.{has_key, no_key};
 
 use indexmap::IndexSet;
+use smallvec::SmallVec;
 use std::alloc::{AllocError, Global};
 use std::marker::Model;
 
+/// The name of an arc. One of 32 bytes needs no memory of its own.
+pub(crate) type ArcName = SmallVec<u8, 32>;
+
 // An arc by the numbers of its ends and its name.
-type ArcKey = (usize, usize, Vec<u8>);
+type ArcKey = (usize, usize, ArcName);
 
 /// The arcs in their order.
 #[derive(Drop)]
@@ -58,7 +62,7 @@ impl ArcKeys {
         ensures { result.now ≡ (get_or self.now i no_key).name }
     {
         match self.set.get_index(i) {
-            Some(key) => &key.2,
+            Some(key) => key.2.as_slice(),
             None => &[],
         }
     }
@@ -68,7 +72,7 @@ impl ArcKeys {
         &mut self,
         tail: usize,
         head: usize,
-        name: Vec<u8>,
+        name: ArcName,
     ) -> Result<bool, AllocError>
         ensures is_new { IfOk result (λ b. b ≡ not (has_key (record { tail = tail; head = head; name = name.items }) self.old)) }
         ensures added { OnOk result (has_key (record { tail = tail; head = head; name = name.items }) self.old ≡ false

@@ -136,7 +136,7 @@ fn label_excess_arc(
         return Ok(());
     }
     let name = name_of_arc(alloc, tail, head)?;
-    labels.push_column(&name)
+    labels.push_column(name.as_slice())
 }
 
 // Adds the ID columns by their headers.

@@ -16,8 +16,3 @@ mod reading;
 mod rows;
 
 pub use made::network;
-
-#[cfg(test)]
-mod role_tests;
-#[cfg(test)]
-mod tests;

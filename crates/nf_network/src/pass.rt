@@ -12,7 +12,7 @@ ghost use Rattle.nf_network.specs.Rows.{arc_rows};
 ghost use Rattle.nf_network.specs.Rows.{arc_row_now};
 
 use crate::figures::read_figures;
-use crate::keys::ArcKeys;
+use crate::keys::{ArcKeys, ArcName};
 use crate::nodes::Nodes;
 use crate::reading::read_arc_row;
 use crate::rows::{ArcRow, Defaults, Figures};
@@ -56,10 +56,10 @@ fn name_ends(nodes: &mut Nodes, row: &ArcRow<'_>) -> Result<(usize, usize), Cell
 }
 
 // The name of an arc whose ends and name are not bad.
-pub(crate) fn name_of_arc(alloc: Global, tail: &[u8], head: &[u8]) -> Result<Vec<u8>, AllocError>
+pub(crate) fn name_of_arc(alloc: Global, tail: &[u8], head: &[u8]) -> Result<ArcName, AllocError>
     ensures { IfOk result (λ v. v.items ≡ tail.now ++ 95 ∷ head.now) }
 {
-    let mut name = Vec::from_slice(alloc, tail)?;
+    let mut name = ArcName::from_slice(alloc, tail)?;
     name.push(b'_')?;
     name.extend_from_slice(head)?;
     Ok(name)
@@ -91,13 +91,13 @@ fn said<'a>(cell: Cell<&'a [u8]>) -> &'a [u8]
 }
 
 // The name of an arc.
-fn read_arc_name(alloc: Global, row: &ArcRow<'_>) -> Result<Vec<u8>, CellFault>
+fn read_arc_name(alloc: Global, row: &ArcRow<'_>) -> Result<ArcName, CellFault>
     ensures { MatchResult result (λ v. (is_bad (arc_row_now row.now).name ≡ false) × (v.items ≡ arc_name (arc_row_now row.now)))
         (IsFaultOf (fault_if (is_bad (arc_row_now row.now).name) Role.ArcName DataKind.BadName)) }
 {
     let name = match row.name {
         Cell::Missing => name_of_arc(alloc, said(row.tail), said(row.head)),
-        Cell::Is(name) => Vec::from_slice(alloc, name),
+        Cell::Is(name) => ArcName::from_slice(alloc, name),
         Cell::Bad => {
             return Err(CellFault {
                 role: Role::ArcName,
