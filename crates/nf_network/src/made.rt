@@ -59,7 +59,7 @@ pub fn network(
     let Ok(builder) = make_problem(alloc, &arcs, options) else {
         return Err(DataFault::no_memory(alloc, SetName::Arcdata));
     };
-    // Cells are UTF-8, no two of the header are the same, and no ID column stands twice.
+    // They tell that cells are UTF-8, and that neither a name of the header nor an ID column stands twice.
     let (_width, _ids) = (arc_table.width(), arc_roles.ids());
     match make_labels(alloc, &arcs, arc_roles, arc_table, options.thrunet) {
         Ok(labels) => Ok((builder, labels)),
