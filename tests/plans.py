@@ -26,6 +26,8 @@ class Variable:
         self.cost = draw_amount(r, -3, 9) if r.random() < 0.8 else None
         self.least = draw_amount(r, -4, 0) if r.random() < 0.3 else None
         self.most = r.choice(["INF", "inf", draw_amount(r, 0, 9)]) if r.random() < 0.6 else None
+        if self.numbers()[2] is not None and self.numbers()[2] < self.numbers()[1]:
+            self.least = None
 
     def data(self):
         return [(kind, text) for kind, text in (("COST", self.cost), ("LOWERBD", self.least), ("UPPERBD", self.most)) if text is not None]
