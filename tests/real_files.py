@@ -9,6 +9,7 @@ A refusal must be the whole listing, and nothing may stand on standard error.
 import csv
 import os
 import shutil
+import subprocess
 import sys
 import tempfile
 from fractions import Fraction
@@ -310,20 +311,27 @@ def passes_the_range(t):
     with Copy() as c:
         c.write("arcs.csv", [["_FROM_", "_TO_", "_COST_", "_CAPAC_"], ["a", "b", "1", "INF"], ["b", "a", "1", "INF"]])
         c.write("nodes.csv", [["_NODE_", "_SUPDEM_"]])
-        c.write("certificate.csv", [["_ITEM_", "_NUMBER_", "_VALUE_"], ["VERDICT", "1", "OPTIMAL"], ["COL", "1", "0"], ["COL", "2", "0"],
-                                    ["ROW", "1", most], ["ROW", "2", "-" + most]])
-        status, listing, error = check(t, c.folder)
-        begins = listing if listing.count("\n") != 1 else listing.split(":")[0]
-        t.expect("numbers of 127 bits", (status, begins + "\n", error), 8, "RANGE PASSED CHECK")
+        rows = [["_ITEM_", "_NUMBER_", "_VALUE_"], ["VERDICT", "1", "OPTIMAL"], ["COL", "1", "0"], ["COL", "2", "0"]]
+        for what, duals in (("numbers", (most, "-" + most)), ("denominators", ("1/" + most, "1/" + str(2 ** 127 - 2)))):
+            c.write("certificate.csv", [*rows, ["ROW", "1", duals[0]], ["ROW", "2", duals[1]]])
+            status, listing, error = check(t, c.folder)
+            begins = listing if listing.count("\n") != 1 else listing.split(":")[0]
+            t.expect("%s of 127 bits" % what, (status, begins + "\n", error), 8, "RANGE PASSED CHECK")
 
 
 def outside(t):
-    """Files that are folders, and an output that takes nothing."""
+    """Files and a standard input that are folders, and an output that takes nothing."""
     for name in ("arcs.csv", "nodes.csv", "certificate.csv"):
         with Copy() as c:
             os.remove(c.path(name))
             os.mkdir(c.path(name))
             t.expect("%s is a folder" % name, check(t, c.folder), 5, "READ FAULT")
+    for word in ("check", "run"):
+        with Copy() as c:
+            folder = os.open(c.folder, os.O_RDONLY)
+            done = subprocess.run([*t.command, word], stdin=folder, capture_output=True, cwd=c.folder, timeout=60)
+            os.close(folder)
+            t.expect("standard input is a folder, %s" % word, (done.returncode, done.stdout.decode(), done.stderr.decode()), 5, "READ FAULT")
     if not os.path.exists("/dev/full"):
         print("there is no /dev/full here: the full device is left out")
         return
