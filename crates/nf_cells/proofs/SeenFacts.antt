@@ -1,12 +1,11 @@
 -- Facts on lists of names, each once.
-use Rattle.std.proofs.Common.{◌≡◌, ◌≢◌, ◌<◌, ◌||◌, ◌+◌, ◌++◌, ◌⊎◌, ℕ, suc, Bool, true, false, not, cond, List, [], ◌∷◌, Some, None, length, map, get_or, filter, refl, sym, ap, ◌∙◌, inl, inr, arith}
+use Rattle.std.proofs.Common.{◌≡◌, ◌≢◌, ◌<◌, ◌||◌, ◌+◌, ◌++◌, ◌⊎◌, ℕ, suc, Bool, true, false, not, List, [], ◌∷◌, Some, None, length, get_or, filter, refl, sym, ap, ◌∙◌, inl, inr, arith}
 use Rattle.std.proofs.lemmas.Bool.{false≢true}
 use Rattle.std.proofs.lemmas.Slice.Eq.{bytes_eq-Decides}
-use Rattle.std.proofs.lemmas.List.{append-nil, map-append}
+use Rattle.std.proofs.lemmas.List.{append-nil}
 use Rattle.std.proofs.lemmas.List.Elements.{filter-append}
 use Rattle.std.proofs.lemmas.List.Folds.{list_any-append}
 use Rattle.std.proofs.lemmas.Map.Views.{any-filter_same}
-use Rattle.std.specs.List.{list_any, position_or_len, position}
 use Rattle.std.specs.Str.{bytes_eq}
 use Rattle.nf_cells.specs.Names.{Name, has_name, number_of, place_of, with_name, first_seen, is_once}
 
@@ -53,31 +52,6 @@ pub first_seen-push : (xs : List Name) (x : Name) → first_seen (xs ++ x ∷ []
 unfolding first_seen
 first_seen-push [] x = refl
 first_seen-push (n ∷ ns) x = rw (first_seen-push ns x) (step n x (first_seen ns))
-
--- ---- the list that a set of buffers stands for
-pub place-map : {A : Type 0} (f : A → Name) (x : Name) (ks : List A) → place_of x (map f ks) ≡ position_or_len (λ k. bytes_eq x (f k)) ks
-place-map f x [] = refl
-place-map f x (k ∷ ks) = rw (place-map f x ks) refl
-
-map-length : {A : Type 0} (f : A → Name) (ks : List A) → length (map f ks) ≡ length ks
-map-length f [] = refl
-map-length f (k ∷ ks) = ap suc (map-length f ks)
-
-any-map : {A : Type 0} (f : A → Name) (x : Name) (ks : List A) → has_name x (map f ks) ≡ list_any (λ k. bytes_eq x (f k)) ks
-any-map f x [] = refl
-any-map f x (k ∷ ks) = rw (any-map f x ks) refl
-
-pub number-map : {A : Type 0} (f : A → Name) (x : Name) (ks : List A) → number_of x (map f ks) ≡ position (λ k. bytes_eq x (f k)) ks
-number-map f x ks = rw (place-map f x ks, map-length f ks) refl
-
-pub added : {A : Type 0} (f : A → Name) (x : A) (ks : List A)
-    → map f (cond (list_any (λ k. bytes_eq (f x) (f k)) ks) ks (ks ++ x ∷ [])) ≡ with_name (map f ks) (f x)
-added f x ks = rw (any-map f (f x) ks) (by_cases (either (list_any (λ k. bytes_eq (f x) (f k)) ks)))
-  where
-    by_cases : (list_any (λ k. bytes_eq (f x) (f k)) ks ≡ true) ⊎ (list_any (λ k. bytes_eq (f x) (f k)) ks ≡ false)
-        → map f (cond (list_any (λ k. bytes_eq (f x) (f k)) ks) ks (ks ++ x ∷ [])) ≡ cond (list_any (λ k. bytes_eq (f x) (f k)) ks) (map f ks) (map f ks ++ f x ∷ [])
-    by_cases (inl h) = rw h refl
-    by_cases (inr h) = rw h (map-append f ks (x ∷ []))
 
 -- ---- a name that is there
 pub place-less : (x : Name) (ks : List Name) → has_name x ks ≡ true → place_of x ks < length ks
@@ -128,10 +102,6 @@ there x ks i h = by_cases (either (has_name x ks))
         let is : number_of x ks ≡ None = grind (arith, all) in
         let s : Some i ≡ None = sym h ∙ is in
         absurd (cc)
-
--- and is not added again
-pub not-added : (x : Name) (ks : List Name) → has_name x ks ≡ true → ks ≡ with_name ks x
-not-added x ks h = rw h refl
 
 pub place-end : (x : Name) (ks : List Name) → place_of x ks ≡ length ks → has_name x ks ≡ false
 place-end x ks h = by_cases (either (has_name x ks))

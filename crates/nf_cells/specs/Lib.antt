@@ -1,4 +1,3 @@
 pub mod Cells
 pub mod Names
-pub mod Inside
 pub mod Values

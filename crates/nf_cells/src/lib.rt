@@ -2,11 +2,13 @@
 #![tactic(auto)]
 
 mod cell;
+mod kept;
 mod name;
 mod names;
 mod values;
 
 pub use cell::{is_missing, trimmed};
+pub use kept::Name;
 pub use name::{MOST_NAME_BYTES, is_name};
 pub use names::Names;
 pub use values::{Bound, Cell, Gives, Supply, amount_cell, bound_cell, name_cell, supply_cell};

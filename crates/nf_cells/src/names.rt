@@ -1,7 +1,8 @@
 //! Lists of names, each once.
-ghost use Rattle.std.specs.Prelude.{◌≡◌, ◌<◌, [], length, map, get_or, position, IfOk, OnOk};
+ghost use Rattle.std.specs.Prelude.{◌≡◌, ◌<◌, [], length, get_or, IfOk, OnOk};
 ghost use Rattle.nf_cells.specs.Names.{place_of, with_name, number_of};
 
+use crate::kept::{Name, Sought};
 use indexmap::IndexSet;
 use std::alloc::{AllocError, Global};
 use std::marker::Model;
@@ -10,17 +11,16 @@ use std::marker::Model;
 #[derive(Drop)]
 pub struct Names {
     alloc: Global,
-    set: IndexSet<Vec<u8>>,
+    set: IndexSet<Name>,
 }
 
 impl Model for Names {
     ghost use Rattle.std.specs.Prelude.{List};
-    ghost use Rattle.nf_cells.specs.Inside.{names_inside};
     ghost use Rattle.nf_cells.specs.Names.{Name};
 
     ghost Value = { List Name };
 
-    ghost view = { names_inside };
+    ghost view = { λ n. n.set.keys };
 }
 
 impl Names {
@@ -45,7 +45,7 @@ impl Names {
     pub fn find(&self, name: &[u8]) -> Option<usize>
         ensures number { result ≡ number_of name.now self.now }
     {
-        self.set.get_index_of(name)
+        self.set.get_index_of(Sought { bytes: name })
     }
 
     /// The number of a name, which is added at the end if it is new.
@@ -58,7 +58,7 @@ impl Names {
         if let Some(i) = self.find(name) {
             return Ok(i);
         }
-        let (i, _) = self.set.insert_full(Vec::from_slice(self.alloc, name)?)?;
+        let (i, _) = self.set.insert_full(Name::from_slice(self.alloc, name)?)?;
         Ok(i)
     }
 
@@ -68,7 +68,7 @@ impl Names {
         ensures name { result.now ≡ get_or self.now i [] }
     {
         match self.set.get_index(i) {
-            Some(name) => name,
+            Some(name) => name.as_slice(),
             None => &[],
         }
     }

@@ -56,6 +56,21 @@ impl Labels {
         }
     }
 
+    /// No labels, with memory for so many columns and cells of ID columns beside their bytes.
+    pub fn with_capacity(alloc: Global, columns: usize, ids: usize) -> Result<Labels, AllocError>
+        ensures empty { IfOk result (λ l. l ≡ no_labels) }
+    {
+        Ok(Labels {
+            alloc,
+            nodes: Vec::new(alloc),
+            columns: Texts::with_capacity(alloc, columns)?,
+            own_arcs: 0,
+            constraints: Texts::new(alloc),
+            id_headers: Texts::new(alloc),
+            ids: Texts::with_capacity(alloc, ids)?,
+        })
+    }
+
     /// Adds a node: its name, and its supply as a text.
     pub fn push_node(&mut self, name: &[u8], supdem: &[u8]) -> Result<(), AllocError>
         requires room { length self.old.nodes < 2 ^ 30 }

@@ -1,5 +1,5 @@
 //! Lists of texts.
-ghost use Rattle.std.specs.Prelude.{◌≡◌, ◌<◌, [], ◌∷◌, ◌++◌, length, get_or, IfErr, OnOk};
+ghost use Rattle.std.specs.Prelude.{◌≡◌, ◌<◌, [], ◌∷◌, ◌++◌, length, get_or, IfErr, IfOk, OnOk};
 
 use std::alloc::{AllocError, Global};
 use std::marker::Model;
@@ -37,6 +37,16 @@ impl Texts {
             bytes: Vec::new(alloc),
             spans: Vec::new(alloc),
         }
+    }
+
+    /// No texts, with memory for so many of them beside their bytes. `AllocError` where there is none.
+    pub(crate) fn with_capacity(alloc: Global, texts: usize) -> Result<Texts, AllocError>
+        ensures { IfOk result (λ t. t ≡ []) }
+    {
+        Ok(Texts {
+            bytes: Vec::new(alloc),
+            spans: Vec::with_capacity(alloc, texts)?,
+        })
     }
 
     pub(crate) fn len(&self) -> usize

@@ -5,4 +5,4 @@ use Rattle.nf_network.specs.Keys.{Key}
 use Rattle.nf_network.specs.declared.keys.ArcKeys.TheInside.{Inside}
 
 abbrev pub keys_inside : Inside → List Key
-keys_inside k = map (λ a. record { tail = a.0; head = a.1; name = a.2.items }) k.set.keys
+keys_inside k = map (λ a. record { tail = a.0; head = a.1; name = a.2 }) k.set.keys

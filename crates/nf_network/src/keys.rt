@@ -3,15 +3,12 @@ ghost use Rattle.std.specs.Prelude.{◌≡◌, ◌<◌, get_or, [], ◌∷◌, �
 ghost use Rattle.nf_network.specs.Keys.{has_key, no_key};
 
 use indexmap::IndexSet;
-use smallvec::SmallVec;
+use nf_cells::Name;
 use std::alloc::{AllocError, Global};
 use std::marker::Model;
 
-/// The name of an arc. One of 32 bytes needs no memory of its own.
-pub(crate) type ArcName = SmallVec<u8, 32>;
-
 // An arc by the numbers of its ends and its name.
-type ArcKey = (usize, usize, ArcName);
+type ArcKey = (usize, usize, Name);
 
 /// The arcs in their order.
 #[derive(Drop)]
@@ -30,12 +27,13 @@ impl Model for ArcKeys {
 }
 
 impl ArcKeys {
-    pub(crate) fn new(alloc: Global) -> ArcKeys
-        ensures { result ≡ [] }
+    /// No arcs, with room for so many.
+    pub(crate) fn with_room(alloc: Global, arcs: usize) -> Result<ArcKeys, AllocError>
+        ensures { IfOk result (λ keys. keys ≡ []) }
     {
-        ArcKeys {
-            set: IndexSet::new(alloc),
-        }
+        Ok(ArcKeys {
+            set: IndexSet::with_capacity(alloc, arcs)?,
+        })
     }
 
     pub fn len(&self) -> usize
@@ -68,15 +66,10 @@ impl ArcKeys {
     }
 
     /// Adds an arc, if it is new.
-    pub(crate) fn add(
-        &mut self,
-        tail: usize,
-        head: usize,
-        name: ArcName,
-    ) -> Result<bool, AllocError>
-        ensures is_new { IfOk result (λ b. b ≡ not (has_key (record { tail = tail; head = head; name = name.items }) self.old)) }
-        ensures added { OnOk result (has_key (record { tail = tail; head = head; name = name.items }) self.old ≡ false
-            → self.new ≡ self.old ++ record { tail = tail; head = head; name = name.items } ∷ []) }
+    pub(crate) fn add(&mut self, tail: usize, head: usize, name: Name) -> Result<bool, AllocError>
+        ensures is_new { IfOk result (λ b. b ≡ not (has_key (record { tail = tail; head = head; name = name }) self.old)) }
+        ensures added { OnOk result (has_key (record { tail = tail; head = head; name = name }) self.old ≡ false
+            → self.new ≡ self.old ++ record { tail = tail; head = head; name = name } ∷ []) }
     {
         let (_, is_new) = self.set.insert_full((tail, head, name))?;
         Ok(is_new)

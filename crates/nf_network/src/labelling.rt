@@ -35,7 +35,9 @@ pub(crate) fn make_labels(
     ensures { IfOk result (λ l. l ≡ labels_of thrunet arcs.now.nodes.names arcs.now.nodes.given (joined_below (length arcs.now.keys) (name_at arcs.now.keys)) roles.now.ids table.now) }
 {
     let balance = Balance::of(&arcs.nodes, thrunet);
-    let mut labels = Labels::new(alloc);
+    let columns = arcs.keys.len() + arcs.nodes.len();
+    let ids = arcs.keys.len().saturating_mul(roles.ids().len());
+    let mut labels = Labels::with_capacity(alloc, columns, ids)?;
     label_nodes(&mut labels, &arcs.nodes)?;
     label_excess(&mut labels, &arcs.nodes, balance)?;
     label_arcs(&mut labels, &arcs.keys)?;

@@ -32,7 +32,8 @@ pub(crate) fn make_problem(
     ensures { IfOk result (λ p. p ≡ program_of options.now (joined_below (length arcs.now.keys) (column_at options.now.maximize arcs.now.keys arcs.now.figures.items)) arcs.now.nodes.given) }
 {
     let balance = Balance::of(&arcs.nodes, options.thrunet);
-    let mut builder = ProblemBuilder::new(alloc, options.maximize);
+    let columns = arcs.keys.len() + arcs.nodes.len();
+    let mut builder = ProblemBuilder::with_capacity(alloc, options.maximize, columns)?;
     add_nodes(&mut builder, &arcs.nodes)?;
     add_excess(&mut builder, &arcs.nodes, balance)?;
     add_arcs(&mut builder, arcs, options.maximize)?;

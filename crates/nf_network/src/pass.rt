@@ -12,11 +12,11 @@ ghost use Rattle.nf_network.specs.Rows.{arc_rows};
 ghost use Rattle.nf_network.specs.Rows.{arc_row_now};
 
 use crate::figures::read_figures;
-use crate::keys::{ArcKeys, ArcName};
-use crate::nodes::Nodes;
+use crate::keys::ArcKeys;
+use crate::nodes::{Nodes, no_memory};
 use crate::reading::read_arc_row;
 use crate::rows::{ArcRow, Defaults, Figures};
-use nf_cells::Cell;
+use nf_cells::{Cell, Name};
 use nf_roles::{CellFault, DataKind, Roles};
 use nf_stmt::Role;
 use nf_table::Table;
@@ -56,11 +56,11 @@ fn name_ends(nodes: &mut Nodes, row: &ArcRow<'_>) -> Result<(usize, usize), Cell
 }
 
 // The name of an arc whose ends and name are not bad.
-pub(crate) fn name_of_arc(alloc: Global, tail: &[u8], head: &[u8]) -> Result<ArcName, AllocError>
-    ensures { IfOk result (λ v. v.items ≡ tail.now ++ 95 ∷ head.now) }
+pub(crate) fn name_of_arc(alloc: Global, tail: &[u8], head: &[u8]) -> Result<Name, AllocError>
+    ensures { IfOk result (λ v. v ≡ tail.now ++ 95 ∷ head.now) }
 {
-    let mut name = ArcName::from_slice(alloc, tail)?;
-    name.push(b'_')?;
+    let mut name = Name::from_slice(alloc, tail)?;
+    name.extend_from_slice(b"_")?;
     name.extend_from_slice(head)?;
     Ok(name)
 }
@@ -91,13 +91,13 @@ fn said<'a>(cell: Cell<&'a [u8]>) -> &'a [u8]
 }
 
 // The name of an arc.
-fn read_arc_name(alloc: Global, row: &ArcRow<'_>) -> Result<ArcName, CellFault>
-    ensures { MatchResult result (λ v. (is_bad (arc_row_now row.now).name ≡ false) × (v.items ≡ arc_name (arc_row_now row.now)))
+fn read_arc_name(alloc: Global, row: &ArcRow<'_>) -> Result<Name, CellFault>
+    ensures { MatchResult result (λ v. (is_bad (arc_row_now row.now).name ≡ false) × (v ≡ arc_name (arc_row_now row.now)))
         (IsFaultOf (fault_if (is_bad (arc_row_now row.now).name) Role.ArcName DataKind.BadName)) }
 {
     let name = match row.name {
         Cell::Missing => name_of_arc(alloc, said(row.tail), said(row.head)),
-        Cell::Is(name) => ArcName::from_slice(alloc, name),
+        Cell::Is(name) => Name::from_slice(alloc, name),
         Cell::Bad => {
             return Err(CellFault {
                 role: Role::ArcName,
@@ -144,6 +144,17 @@ fn add_key(
 }
 
 impl Arcs {
+    // No arcs and no nodes, with room for so many arcs.
+    fn with_room(alloc: Global, arcs: usize) -> Result<Arcs, AllocError>
+        ensures { IfOk result (λ a. (a.nodes ≡ record { names = []; given = [] }) × (a.keys ≡ []) × (a.figures.items ≡ [])) }
+    {
+        Ok(Arcs {
+            nodes: Nodes::new(alloc),
+            keys: ArcKeys::with_room(alloc, arcs)?,
+            figures: Vec::with_capacity(alloc, arcs)?,
+        })
+    }
+
     // Takes the row behind the first `i` ones.
     fn take_row(
         &mut self,
@@ -208,10 +219,11 @@ pub fn read_arcs(
         × IsAfter defaults.now (arc_rows roles.now table.now.rows) a.nodes a.keys a.figures.items)
         (λ e. (e.fault.kind ≡ DataKind.NoMemory) ⊎ (first_arc_fault defaults.now (arc_rows roles.now table.now.rows) ≡ Some (e.row, e.fault))) }
 {
-    let mut arcs = Arcs {
-        nodes: Nodes::new(alloc),
-        keys: ArcKeys::new(alloc),
-        figures: Vec::new(alloc),
+    let Ok(mut arcs) = Arcs::with_room(alloc, (table.rows() as usize).min(MOST_ARCS)) else {
+        return Err(RowFault {
+            row: 1,
+            fault: no_memory(Role::TailNode),
+        });
     };
     for i in 0..table.rows() {
         match arcs.take_row(alloc, roles, table, defaults, i) {

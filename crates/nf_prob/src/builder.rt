@@ -58,6 +58,25 @@ impl ProblemBuilder {
         }
     }
 
+    /// A program without rows and columns, with memory for so many columns, so that none moves while they are added.
+    /// `AllocError` where there is none.
+    pub fn with_capacity(
+        alloc: Global,
+        maximize: bool,
+        columns: usize,
+    ) -> Result<ProblemBuilder, AllocError>
+        ensures { IfOk result (λ b. b ≡ empty_program maximize) }
+    {
+        Ok(ProblemBuilder {
+            alloc,
+            columns: Vec::with_capacity(alloc, columns)?,
+            rows: Vec::new(alloc),
+            nodes: 0,
+            arcs: 0,
+            maximize,
+        })
+    }
+
     /// Adds a node with its supply, which is negative where it is a demand, and gives its number.
     pub fn add_node(&mut self, right: Frac) -> Result<u32, AllocError>
         requires no_side { self.old.nodes ≡ length self.old.rows }
@@ -181,10 +200,7 @@ fn node_entries(alloc: Global, tail: u32, head: u32) -> Result<Entries, AllocErr
 fn pair(alloc: Global, first: Entry, second: Entry) -> Result<Entries, AllocError>
     ensures { IfOk result (λ v. v.items ≡ first ∷ second ∷ []) }
 {
-    let mut entries = Entries::new(alloc);
-    entries.push(first)?;
-    entries.push(second)?;
-    Ok(entries)
+    Entries::from_slice(alloc, &[first, second])
 }
 
 // Puts an entry in its place by row number. Rows mostly come in their order, so the place is looked for from the end.

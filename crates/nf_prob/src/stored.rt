@@ -5,12 +5,12 @@ use nf_frac::Frac;
 use nf_model::RowKind;
 use smallvec::SmallVec;
 
-/// What a column has in a row.
+/// What a column has in a row. The value comes first, so that an entry is copied by whole words.
 #[derive(Clone, Copy, Debug, PartialEq, Eq)]
 pub struct Entry {
+    pub value: Frac,
     /// The row's number, from 1.
     pub row: u32,
-    pub value: Frac,
 }
 
 // What a place of a `SmallVec` holds that has no entry yet.
@@ -21,18 +21,18 @@ impl Default for Entry {
 
     fn default() -> Entry {
         Entry {
-            row: 0,
             value: Frac::zero(),
+            row: 0,
         }
     }
 }
 
-/// What a row has in a column.
+/// What a row has in a column. The value comes first, so that an entry is copied by whole words.
 #[derive(Clone, Copy, Debug, PartialEq, Eq)]
 pub struct RowEntry {
+    pub value: Frac,
     /// The column's number, from 1.
     pub column: u32,
-    pub value: Frac,
 }
 
 #[derive(Clone, Copy)]

@@ -28,7 +28,7 @@ returns c =
       c.in_ok-label_arcs.ensures,
       c.in_ok-label_excess.ensures,
       c.in_ok-label_nodes.ensures,
-      c.new-labels.ensures.empty,
+      c.in_ok-labels.ensures.empty,
       c.of-balance.ensures.balance,
       own,
     ) refl

@@ -9,7 +9,7 @@ use Rattle.nf_network.proofs.making.make_problem.Goals as goal
 
 pub add_excess_arcs-requires-clause-of_arcs : goal.add_excess_arcs-requires-clause-of_arcs
 add_excess_arcs-requires-clause-of_arcs c =
-    let nodes = rw c.new-builder.ensures at c.in_ok-add_nodes.ensures in
+    let nodes = rw c.in_ok-builder.ensures at c.in_ok-add_nodes.ensures in
     let whole = rw (nodes, c.of-balance.ensures.balance) at c.in_ok-add_excess.ensures in
     let arcs = rw whole at c.in_ok-add_arcs.ensures in
     let size = joined-ones (length c.args.arcs.now.keys) (λ k. column_made c.args.options.now.maximize (get_or c.args.arcs.now.keys k no_key) (get_or c.args.arcs.now.figures.items k no_figures)) in
@@ -21,7 +21,7 @@ add_excess_arcs-requires-clause-of_arcs c =
 
 pub add_excess_arcs-requires-clause-few_columns : goal.add_excess_arcs-requires-clause-few_columns
 add_excess_arcs-requires-clause-few_columns c =
-    let nodes = rw c.new-builder.ensures at c.in_ok-add_nodes.ensures in
+    let nodes = rw c.in_ok-builder.ensures at c.in_ok-add_nodes.ensures in
     let whole = rw (nodes, c.of-balance.ensures.balance) at c.in_ok-add_excess.ensures in
     let arcs = rw whole at c.in_ok-add_arcs.ensures in
     let size = joined-ones (length c.args.arcs.now.keys) (λ k. column_made c.args.options.now.maximize (get_or c.args.arcs.now.keys k no_key) (get_or c.args.arcs.now.figures.items k no_figures)) in
@@ -31,7 +31,7 @@ add_excess_arcs-requires-clause-few_columns c =
 
 pub returns : goal.returns
 returns c =
-    let nodes = rw c.new-builder.ensures at c.in_ok-add_nodes.ensures in
+    let nodes = rw c.in_ok-builder.ensures at c.in_ok-add_nodes.ensures in
     let whole = rw (nodes, c.of-balance.ensures.balance) at c.in_ok-add_excess.ensures in
     let arcs = rw whole at c.in_ok-add_arcs.ensures in
     (rw (arcs, c.of-balance.ensures.balance) at c.in_ok-add_excess_arcs.ensures)

@@ -6,11 +6,11 @@ use Rattle.nf_network.proofs.PassFacts.{IsClearBelow, after-none, clear-none, cl
 use Rattle.nf_network.proofs.pass.read_arcs.Goals as goal
 
 pub loop-i-init : goal.loop-i-init
-loop-i-init c = (rw (c.new.ensures, c.new-2.ensures, c.new-3.ensures.items) (after-none c.args.defaults.now), clear-none c.args.defaults.now (arc_rows c.args.roles.now c.args.table.now.rows))
+loop-i-init c = (rw (c.in-Ok.ensures.0, c.in-Ok.ensures.1, c.in-Ok.ensures.2) (after-none c.args.defaults.now), clear-none c.args.defaults.now (arc_rows c.args.roles.now c.args.table.now.rows))
 
 pub loop-i-preserved : goal.loop-i-preserved
 loop-i-preserved c =
-    (c.in-Ok.ensures.1, clear-more c.args.defaults.now (arc_rows c.args.roles.now c.args.table.now.rows) c.loop-i.i c.loop-i.invariant.1 c.in-Ok.ensures.0)
+    (c.in-Ok-take_row.ensures.1, clear-more c.args.defaults.now (arc_rows c.args.roles.now c.args.table.now.rows) c.loop-i.i c.loop-i.invariant.1 c.in-Ok-take_row.ensures.0)
 
 pub returns-in-Err : goal.returns-in-Err
 returns-in-Err c =

@@ -6,11 +6,11 @@ use Rattle.nf_network.proofs.keys.ArcKeys.add.Goals as goal
 pub returns-clause-is_new : goal.returns-clause-is_new
 returns-clause-is_new c =
     c.in_ok-is_new.ensures.added
-    ∙ ap not (sym (any-map (λ a. record { tail = a.0; head = a.1; name = a.2.items }) (record { tail = c.args.tail; head = c.args.head; name = c.args.name.items }) c.self.inside.set.keys)
-    ∙ ap (has_key (record { tail = c.args.tail; head = c.args.head; name = c.args.name.items })) c.self.view_is)
+    ∙ ap not (sym (any-map (λ a. record { tail = a.0; head = a.1; name = a.2 }) (record { tail = c.args.tail; head = c.args.head; name = c.args.name }) c.self.inside.set.keys)
+    ∙ ap (has_key (record { tail = c.args.tail; head = c.args.head; name = c.args.name })) c.self.view_is)
 
 pub returns-clause-added : goal.returns-clause-added
 returns-clause-added c = λ new.
-    ap (map (λ a. record { tail = a.0; head = a.1; name = a.2.items })) c.in_ok-is_new.ensures.keys
-    ∙ key-added (λ a. record { tail = a.0; head = a.1; name = a.2.items }) (c.args.tail, c.args.head, c.args.name) c.self.inside.set.keys (ap (has_key (record { tail = c.args.tail; head = c.args.head; name = c.args.name.items })) c.self.view_is ∙ new)
-    ∙ ap (λ ks. ks ++ record { tail = c.args.tail; head = c.args.head; name = c.args.name.items } ∷ []) c.self.view_is
+    ap (map (λ a. record { tail = a.0; head = a.1; name = a.2 })) c.in_ok-is_new.ensures.keys
+    ∙ key-added (λ a. record { tail = a.0; head = a.1; name = a.2 }) (c.args.tail, c.args.head, c.args.name) c.self.inside.set.keys (ap (has_key (record { tail = c.args.tail; head = c.args.head; name = c.args.name })) c.self.view_is ∙ new)
+    ∙ ap (λ ks. ks ++ record { tail = c.args.tail; head = c.args.head; name = c.args.name } ∷ []) c.self.view_is
