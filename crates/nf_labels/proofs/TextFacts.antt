@@ -1,5 +1,5 @@
 -- Texts in one buffer: more bytes leave those that are there, and a new one stands behind them.
-use Rattle.std.proofs.Common.{◌≡◌, ◌≤◌, ◌+◌, ◌-◌, ◌++◌, ℕ, List, [], ◌∷◌, length, map, take, drop, Result, Ok, Err, IfErr, refl, ap, ap₂, ◌∙◌, All, arith}
+use Rattle.std.proofs.Common.{◌≡◌, ◌+◌, ◌-◌, ◌++◌, ℕ, List, [], ◌∷◌, length, map, take, drop, Result, Ok, Err, IfErr, refl, ap, ap₂, ◌∙◌, All, arith}
 use Rattle.std.proofs.lemmas.List.{take-append-le, drop-append-le, length-drop, map-append, take_all}
 use Rattle.std.proofs.lemmas.List.Elements.{All-head, All-tail}
 use Rattle.std.proofs.Math.Seq.{drop-append_seam}

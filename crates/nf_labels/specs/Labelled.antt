@@ -1,6 +1,6 @@
 -- What `Labels` keeps in its fields, and the labels that a clause sees of them.
 -- The contracts of the methods of `Labels` rest on it.
-use Rattle.std.specs.Prelude.{◌≤◌, ◌-◌, ◌^◌, ℕ, List, length, map}
+use Rattle.std.specs.Prelude.{◌≤◌, ◌-◌, ◌^◌, length, map}
 use Rattle.nf_labels.specs.Labels.{LabelList, NodeText}
 use Rattle.nf_labels.specs.declared.labels.NodeLabel.{NodeLabel}
 use Rattle.nf_labels.specs.declared.labels.Labels.TheInside.{Inside}

@@ -1,5 +1,5 @@
 -- The balance of the nodes, one node after another.
-use Rattle.std.proofs.Common.{◌≡◌, ◌+◌, ◌++◌, ◌<◌, ◌+ℤ◌, ℕ, pos, Bool, true, false, List, [], ◌∷◌, Option, None, length, take, get_or, refl, sym, ap, ◌∙◌, ◌||◌}
+use Rattle.std.proofs.Common.{◌≡◌, ◌+◌, ◌++◌, ◌<◌, ◌+ℤ◌, ℕ, pos, Bool, true, false, List, [], ◌∷◌, Option, None, length, take, get_or, refl, ap, ◌∙◌, ◌||◌}
 use Rattle.std.proofs.lemmas.List.{take_more}
 use Rattle.std.proofs.lemmas.List.Folds.{list_any-append}
 use Rattle.std.proofs.lemmas.List.Sums.{fold-append}

@@ -1,14 +1,14 @@
 -- Facts on the keys of arcs.
-use Rattle.std.proofs.Common.{◌≡◌, ◌≢◌, ◌&&◌, ◌||◌, ◌+◌, ◌++◌, ◌⊎◌, ◌<◌, ℕ, Bool, true, false, not, cond, List, [], ◌∷◌, length, map, get_or, nat_eq, refl, sym, ap, ◌∙◌, inl, inr, arith}
+use Rattle.std.proofs.Common.{◌≡◌, ◌++◌, ◌⊎◌, true, false, cond, List, [], ◌∷◌, map, get_or, nat_eq, refl, sym, ap, ◌∙◌, inl, inr}
 use Rattle.std.proofs.lemmas.Bool.{false≢true, cases_Bool}
 use Rattle.std.proofs.lemmas.Bool.Decides.{Decides-eqb}
 use Rattle.std.proofs.lemmas.List.{map-append}
 use Rattle.std.specs.List.{list_any}
 use Rattle.std.specs.Str.{bytes_eq}
 use Rattle.nf_cells.specs.Names.{Name, has_name, place_of, with_name}
-use Rattle.nf_cells.proofs.SeenFacts.{same, eq-self, at-place, has-still, has-added}
+use Rattle.nf_cells.proofs.SeenFacts.{same, eq-self, at-place, has-still}
 use Rattle.nf_network.specs.Rows.{ArcRow}
-use Rattle.nf_network.specs.Arcs.{tail_of, head_of, arc_name, same_arc}
+use Rattle.nf_network.specs.Arcs.{tail_of, head_of, same_arc}
 use Rattle.nf_network.specs.Pass.{AreNamed}
 use Rattle.nf_network.specs.Keys.{Key, same_key, has_key, key_in}
 

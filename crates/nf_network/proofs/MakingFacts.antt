@@ -1,5 +1,5 @@
 -- The problem as it is made: arcs behind arcs, and what the calls of the builder ask for.
-use Rattle.std.proofs.Common.{◌≡◌, ◌≤◌, ◌<◌, ◌+◌, ◌*◌, ◌++◌, ◌&&◌, ◌||◌, ◌⊎◌, ◌^◌, ◌≤ℤ◌, ◌*ℤ◌, ◌-◌, ℕ, ℤ, zero, suc, pos, Bool, true, false, not, cond, List, [], ◌∷◌, Option, Some, None, length, map, take, get_or, refl, sym, ap, ◌∙◌, inl, inr, arith, append_assoc}
+use Rattle.std.proofs.Common.{◌≡◌, ◌≤◌, ◌<◌, ◌+◌, ◌++◌, ◌||◌, ◌⊎◌, ◌^◌, ◌≤ℤ◌, ◌*ℤ◌, ◌-◌, ℕ, zero, suc, pos, Bool, true, false, cond, List, [], ◌∷◌, Option, Some, None, length, map, get_or, refl, sym, ap, ◌∙◌, inl, inr, arith, append_assoc}
 use Rattle.std.proofs.lemmas.Bool.{false≢true, cases_Bool}
 use Rattle.std.proofs.lemmas.Int.{ints}
 use Rattle.std.proofs.lemmas.List.{append-nil, length-append}
@@ -18,7 +18,7 @@ use Rattle.nf_model.specs.Program.{Column, LinearProgram, IsAtMost}
 use Rattle.nf_prob.specs.Building.{AreEnds, HasRoom, new_column, with_column, with_node}
 use Rattle.nf_prob.specs.Numbers.{ends_of}
 use Rattle.nf_network.specs.declared.excess.Balance.{Balance}
-use Rattle.nf_network.specs.Excess.{balance_of, for_each, gets, has_excess, is_met, joined_below, sends}
+use Rattle.nf_network.specs.Excess.{balance_of, gets, has_excess, is_met, joined_below, sends}
 use Rattle.nf_network.specs.Faults.{are_crossed, most_nodes}
 use Rattle.nf_network.specs.Making.{IsOfArcs, column_at, no_figures, nodes_program, with_arcs, with_excess}
 use Rattle.nf_network.specs.Keys.{Key, no_key}

@@ -1,29 +1,27 @@
 -- What was read is sound, and what is made of it is the network of the rows.
-use Rattle.std.proofs.Common.{◌≡◌, ◌≤◌, ◌<◌, ◌+◌, ◌++◌, ◌⊎◌, ℕ, Bool, true, false, List, [], ◌∷◌, Option, Some, None, Ok, Err, length, map, take, get_or, refl, sym, ap, ◌∙◌, inl, inr, arith}
-use Rattle.std.proofs.lemmas.List.{append-nil, get_or-map, take_all}
+use Rattle.std.proofs.Common.{◌≡◌, ◌<◌, ℕ, List, [], ◌∷◌, Option, Some, None, Ok, Err, length, map, take, get_or, refl, sym, ap, ◌∙◌, arith}
+use Rattle.std.proofs.lemmas.List.{get_or-map, take_all}
 use Rattle.std.proofs.lemmas.List.Elements.{All-cons, All-from_get_or, All-map, All-nil}
 use Rattle.std.specs.List.{All}
 use Rattle.nf_table.specs.Grid.{Grid}
 use Rattle.nf_cells.specs.Names.{Name}
 use Rattle.nf_cells.proofs.SeenFacts.{place-less}
-use Rattle.nf_model.specs.Program.{Column}
 use Rattle.nf_program.specs.declared.program.ProcOptions.{ProcOptions}
 use Rattle.nf_program.specs.declared.program.SetName.TheVariants as set
 use Rattle.nf_roles.specs.declared.fault.DataFault.{DataFault}
 use Rattle.nf_roles.specs.First.{or_else}
 use Rattle.nf_roles.specs.Roles.{RoleColumns}
-use Rattle.nf_network.specs.declared.rows.Defaults.{Defaults}
 use Rattle.nf_network.specs.declared.rows.Figures.{Figures}
-use Rattle.nf_network.specs.Rows.{ArcRow, NodeRow, arc_rows, node_rows}
+use Rattle.nf_network.specs.Rows.{ArcRow, arc_rows, node_rows}
 use Rattle.nf_network.specs.Arcs.{arc_name, figures_of, given}
 use Rattle.nf_network.specs.Excess.{joined_below}
 use Rattle.nf_network.specs.Faults.{empty_row, first_arc_fault}
-use Rattle.nf_network.specs.NodeData.{all_nodes, first_node_fault, first_option_fault, gifts_to}
+use Rattle.nf_network.specs.NodeData.{all_nodes, first_node_fault, gifts_to}
 use Rattle.nf_network.specs.Nodes.{NodeList}
 use Rattle.nf_network.specs.Keys.{Key, key_in, no_key}
 use Rattle.nf_network.specs.Making.{AreSound, HasEndsBelow, IsInOrder, column_at, column_made, name_at, no_figures}
 use Rattle.nf_network.specs.Pass.{AreNamed}
-use Rattle.nf_network.specs.Network.{Network, arc_column, defaults_of, first_fault, in_set, labels_of, network_due, network_of, program_of, values}
+use Rattle.nf_network.specs.Network.{arc_column, defaults_of, first_fault, in_set, labels_of, network_due, program_of}
 use Rattle.nf_network.specs.Whole.{IsWhole}
 use Rattle.nf_network.proofs.LimitFacts.{few-arcs, few-nodes, rows-in-order}
 use Rattle.nf_network.proofs.Lists.{joined-map}

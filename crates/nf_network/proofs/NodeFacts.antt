@@ -1,5 +1,5 @@
 -- A list of nodes with what they were given, against the names and gifts of the rows above.
-use Rattle.std.proofs.Common.{◌≡◌, ◌≢◌, ◌≤◌, ◌<◌, ◌&&◌, ◌||◌, ◌+◌, ◌++◌, ◌⊎◌, ℕ, ℤ, zero, suc, Bool, true, false, not, cond, List, [], ◌∷◌, Option, Some, None, length, map, get_or, set, refl, sym, ap, ◌∙◌, inl, inr, arith}
+use Rattle.std.proofs.Common.{◌≡◌, ◌≤◌, ◌<◌, ◌||◌, ◌+◌, ◌++◌, ◌⊎◌, ℕ, zero, suc, true, false, not, List, [], ◌∷◌, Option, Some, None, length, map, get_or, set, refl, sym, ap, ◌∙◌, inl, inr, arith}
 use Rattle.std.proofs.lemmas.Bool.{false≢true, cases_Bool}
 use Rattle.std.proofs.lemmas.Bool.Decides.{Decides-int_eq}
 use Rattle.std.proofs.lemmas.List.{append-nil, map-append, length-append}
@@ -7,9 +7,8 @@ use Rattle.std.proofs.lemmas.List.Sums.{prefix_len-le-length}
 use Rattle.std.proofs.lemmas.List.Folds.{list_any-append}
 use Rattle.std.specs.Bool.{nat_lt}
 use Rattle.std.specs.Str.{bytes_eq}
-use Rattle.std.specs.Ordering.{int_eq}
 use Rattle.nf_cells.specs.Names.{Name, has_name, place_of, with_name, first_seen, is_once}
-use Rattle.nf_cells.proofs.SeenFacts.{same, eq-self, differs-sym, first_seen-push, once-with, has-still, has-added, at-place, place-less, place-end, place-other}
+use Rattle.nf_cells.proofs.SeenFacts.{same, eq-self, differs-sym, first_seen-push, once-with, at-place, place-less, place-other}
 use Rattle.nf_cells.specs.declared.values.Cell.{Cell}
 use Rattle.nf_cells.specs.declared.values.Cell.TheVariants.{Missing, Bad, Is}
 use Rattle.nf_cells.specs.declared.values.Supply.{Supply}
@@ -18,7 +17,7 @@ use Rattle.nf_roles.specs.First.{or_else}
 use Rattle.nf_network.specs.Arcs.{Gift, gift, given, same_supply}
 use Rattle.nf_program.specs.declared.program.Role.{Role}
 use Rattle.nf_network.specs.Faults.{is_other, excess, most_nodes}
-use Rattle.nf_network.specs.Nodes.{NodeList, with_node, given_at}
+use Rattle.nf_network.specs.Nodes.{NodeList, with_node}
 use Rattle.nf_network.specs.Given.{given_after, IsNamed}
 use Rattle.nf_network.specs.Pass.{Stands}
 

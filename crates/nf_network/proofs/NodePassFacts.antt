@@ -1,5 +1,5 @@
 -- A row of NODEDATA more: what the pass finds is what the rows so far say.
-use Rattle.std.proofs.Common.{◌≡◌, ◌<◌, ◌+◌, ◌++◌, ℕ, suc, Bool, true, false, List, [], ◌∷◌, Option, None, Some, length, map, take, get_or, refl, sym, ap, ◌∙◌, arith, append_assoc, inl, inr, ◌⊎◌, ◌≤◌}
+use Rattle.std.proofs.Common.{◌≡◌, ◌<◌, ◌+◌, ◌++◌, ℕ, suc, true, false, List, [], ◌∷◌, None, Some, length, map, take, get_or, refl, sym, ap, ◌∙◌, arith, append_assoc, inl, inr, ◌⊎◌, ◌≤◌}
 use Rattle.std.proofs.lemmas.List.{map-append, append-nil, get_or-map, take_more}
 use Rattle.std.proofs.lemmas.List.Concat.{flat_map-append}
 use Rattle.std.proofs.lemmas.Bool.{cases_Bool}
@@ -15,22 +15,22 @@ use Rattle.nf_cells.specs.declared.values.Cell.TheVariants.{Is}
 use Rattle.nf_program.specs.declared.program.Role.TheVariants as role
 use Rattle.nf_roles.specs.declared.fault.DataKind.TheVariants as kind
 use Rattle.nf_roles.specs.declared.fault.CellFault.{CellFault}
-use Rattle.nf_roles.specs.First.{first_of, or_else, IsFaultOf}
+use Rattle.nf_roles.specs.First.{first_of, IsFaultOf}
 use Rattle.nf_roles.specs.Roles.{RoleColumns}
 use Rattle.nf_network.specs.declared.rows.Defaults.{Defaults}
 use Rattle.nf_network.specs.declared.rows.Figures.{Figures}
 use Rattle.nf_network.specs.Rows.{ArcRow, NodeRow, node_row, node_rows}
-use Rattle.nf_network.specs.Arcs.{ends, figures_of, gift, gifts, given, said}
+use Rattle.nf_network.specs.Arcs.{ends, gift, gifts, given, said}
 use Rattle.nf_network.specs.Faults.{excess, gift_faults, is_other, node_faults}
 use Rattle.nf_network.specs.NodeData.{all_gifts, no_node_row, node_fault_at, node_gift, node_name, node_row_faults}
-use Rattle.nf_network.specs.Nodes.{NodeList, with_node}
-use Rattle.nf_network.specs.Given.{IsNamed, given_after}
-use Rattle.nf_network.specs.Keys.{Key, key_in}
+use Rattle.nf_network.specs.Nodes.{NodeList}
+use Rattle.nf_network.specs.Given.{IsNamed}
+use Rattle.nf_network.specs.Keys.{Key}
 use Rattle.nf_network.specs.Pass.{IsAfter, Stands}
 use Rattle.nf_network.specs.NodePass.{IsRead, IsTaken, name_faults_now, row_faults_now, with_row}
 use Rattle.nf_network.proofs.NodeFacts.{stands-gift, stands-given, stands-node}
 use Rattle.nf_network.proofs.KeyFacts.{keys-still, named-still}
-use Rattle.nf_network.proofs.PassFacts.{after-names, both, clear-gift, left, right, first-append, map-length, place-added, second-none, with-names}
+use Rattle.nf_network.proofs.PassFacts.{after-names, clear-gift, left, right, first-append, map-length, place-added, second-none, with-names}
 
 -- after ARCDATA no row of NODEDATA is read
 pub read-none : (d : Defaults) (arcs : List ArcRow) (ns : NodeList) (ks : List Key) (fs : List Figures) → IsAfter d arcs ns ks fs → IsRead d arcs [] ns ks fs

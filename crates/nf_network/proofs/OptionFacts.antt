@@ -1,5 +1,5 @@
 -- The options: what the pass finds is what the gifts so far say.
-use Rattle.std.proofs.Common.{◌≡◌, ◌++◌, ◌⊎◌, ◌<◌, ℕ, Bool, true, false, not, List, [], ◌∷◌, Option, Some, None, length, map, get_or, refl, sym, ap, ◌∙◌, inl, inr, arith}
+use Rattle.std.proofs.Common.{◌≡◌, ◌++◌, ◌⊎◌, ℕ, Bool, true, false, not, List, Option, Some, None, length, get_or, refl, sym, ap, ◌∙◌, inl, inr, arith}
 use Rattle.std.proofs.lemmas.Bool.{false≢true, cases_Bool}
 use Rattle.std.proofs.lemmas.List.{append-nil}
 use Rattle.nf_frac.specs.declared.amount.Amount.{Amount}
@@ -21,7 +21,7 @@ use Rattle.nf_network.specs.NodeData.{option_fault, option_faults, option_gift}
 use Rattle.nf_network.specs.Nodes.{NodeList, given_at}
 use Rattle.nf_network.specs.Given.{IsGiven}
 use Rattle.nf_network.specs.Pass.{Stands}
-use Rattle.nf_network.specs.OptionPass.{gift_fault_now, option_fault_now, option_given}
+use Rattle.nf_network.specs.OptionPass.{option_fault_now, option_given}
 use Rattle.nf_network.proofs.NodeFacts.{stands-gift, stands-given}
 use Rattle.nf_network.proofs.PassFacts.{clear-gift}
 

@@ -1,12 +1,11 @@
 -- A row of ARCDATA: what the pass finds is what the rows above say.
-use Rattle.std.proofs.Common.{◌≡◌, ◌≢◌, ◌≤◌, ◌<◌, ◌&&◌, ◌||◌, ◌+◌, ◌++◌, ◌⊎◌, ℕ, zero, suc, Bool, true, false, not, cond, List, [], ◌∷◌, Option, Some, None, length, map, take, get_or, refl, sym, ap, ◌∙◌, inl, inr, arith, append_assoc}
-use Rattle.std.proofs.lemmas.Bool.{false≢true, cases_Bool, cases_lt}
+use Rattle.std.proofs.Common.{◌≡◌, ◌≤◌, ◌<◌, ◌+◌, ◌++◌, ◌⊎◌, ℕ, suc, true, false, List, [], ◌∷◌, Option, Some, None, length, map, take, get_or, refl, sym, ap, ◌∙◌, inl, inr, arith, append_assoc}
+use Rattle.std.proofs.lemmas.Bool.{cases_Bool}
 use Rattle.std.proofs.lemmas.List.{map-append, append-nil, get_or-map, take_more}
 use Rattle.nf_table.specs.Grid.{Cells}
 use Rattle.std.proofs.lemmas.Grind.{flat_map-append}
 use Rattle.std.specs.Bool.{nat_le}
-use Rattle.std.specs.List.{list_any, flat_map}
-use Rattle.std.specs.Str.{bytes_eq}
+use Rattle.std.specs.List.{list_any}
 use Rattle.nf_cells.specs.Names.{Name, has_name, place_of, with_name, first_seen, is_once}
 use Rattle.nf_cells.proofs.SeenFacts.{eq-self, has-added, has-still, place-less}
 use Rattle.nf_cells.specs.declared.values.Cell.{Cell}
@@ -23,7 +22,7 @@ use Rattle.nf_network.specs.Rows.{ArcRow, arc_row}
 use Rattle.nf_roles.specs.First.{first_of, first_below, or_else, fault_if, in_row, IsFaultOf}
 use Rattle.nf_roles.proofs.Lists.{none-more, found}
 use Rattle.nf_network.specs.Arcs.{tail_of, head_of, arc_name, same_arc, ends_of, ends, gift, gifts_of, gifts, given}
-use Rattle.nf_network.specs.Faults.{node_faults, gift_faults, is_other, is_bad, name_faults, figure_faults, arc_faults, arc_fault_at, first_arc_fault, empty_row, most_arcs}
+use Rattle.nf_network.specs.Faults.{node_faults, gift_faults, is_other, name_faults, figure_faults, arc_faults, arc_fault_at, first_arc_fault, empty_row, most_arcs}
 use Rattle.nf_network.specs.Nodes.{NodeList, with_node}
 use Rattle.nf_network.specs.Given.{given_after}
 use Rattle.nf_network.specs.Keys.{Key, has_key, key_in}

@@ -1,31 +1,30 @@
 -- Reading the data: the faults that are told, and what both tables and the options leave.
-use Rattle.std.proofs.Common.{◌≡◌, ◌≤◌, ◌<◌, ◌+◌, ◌++◌, ◌⊎◌, ℕ, Bool, true, false, List, [], ◌∷◌, Option, Some, None, length, map, take, get_or, refl, sym, ap, ◌∙◌, inl, inr, arith}
+use Rattle.std.proofs.Common.{◌≡◌, ◌++◌, ◌⊎◌, ℕ, List, Option, Some, None, map, refl, sym, ap, ◌∙◌, inl, inr}
 use Rattle.std.specs.Prelude.{codes}
 use Rattle.nf_table.specs.Grid.{Cells, Grid}
-use Rattle.nf_cells.specs.Names.{Name, first_seen}
+use Rattle.nf_cells.specs.Names.{Name}
 use Rattle.nf_program.specs.declared.program.ProcOptions.{ProcOptions}
 use Rattle.nf_program.specs.declared.program.SetName.{SetName}
 use Rattle.nf_program.specs.declared.program.SetName.TheVariants as set
 use Rattle.nf_roles.specs.declared.fault.CellFault.{CellFault}
 use Rattle.nf_roles.specs.declared.fault.DataFault.{DataFault}
 use Rattle.nf_roles.specs.declared.fault.DataKind.TheVariants as kind
-use Rattle.nf_roles.specs.First.{first_row_fault, or_else}
+use Rattle.nf_roles.specs.First.{or_else}
 use Rattle.nf_roles.specs.Roles.{RoleColumns, column_text}
 use Rattle.nf_roles.proofs.Lists.{none-yet}
 use Rattle.nf_network.specs.declared.rows.Defaults.{Defaults}
 use Rattle.nf_network.specs.declared.rows.Figures.{Figures}
 use Rattle.nf_network.specs.Rows.{ArcRow, NodeRow, arc_rows, node_rows}
-use Rattle.nf_network.specs.Arcs.{Gift, ends}
+use Rattle.nf_network.specs.Arcs.{ends}
 use Rattle.nf_network.specs.Faults.{first_arc_fault}
 use Rattle.nf_network.specs.NodeData.{all_gifts, all_nodes, first_node_fault, first_option_fault, negated, node_name, option_faults, sink_gift, source_gift}
 use Rattle.nf_network.specs.Nodes.{NodeList}
-use Rattle.nf_network.specs.Keys.{Key, key_in}
-use Rattle.nf_network.specs.Pass.{AreNamed, IsAfter, Stands}
+use Rattle.nf_network.specs.Keys.{Key}
+use Rattle.nf_network.specs.Pass.{Stands}
 use Rattle.nf_network.specs.NodePass.{IsRead}
 use Rattle.nf_network.specs.OptionPass.{option_fault_now, option_given, options_fault_now, options_given}
 use Rattle.nf_network.specs.Network.{defaults_of, first_fault, in_set, no_table}
 use Rattle.nf_network.specs.Whole.{IsWhole, rows_fault}
-use Rattle.nf_network.proofs.NodePassFacts.{read-none}
 use Rattle.nf_network.proofs.OptionFacts.{option-same, option-stands}
 
 -- ---- faults

@@ -11,7 +11,7 @@ use Rattle.nf_cells.specs.declared.values.Supply.{Supply}
 use Rattle.nf_cells.specs.declared.values.Supply.TheVariants.{Amount, OpenSupply, OpenDemand}
 use Rattle.nf_network.specs.declared.rows.Defaults.{Defaults}
 use Rattle.nf_network.specs.declared.rows.Figures.{Figures}
-use Rattle.nf_network.specs.Rows.{ArcRow, NodeRow}
+use Rattle.nf_network.specs.Rows.{ArcRow}
 
 -- What a cell says, or else another value.
 abbrev pub said : {A : Type 0} → A → Cell A → A

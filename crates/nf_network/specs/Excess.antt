@@ -1,6 +1,6 @@
 -- The excess arcs: which nodes send what is too much to the node `_EXCESS_`, and which get from it what is too little.
 -- The network's columns, its last node and their names rest on these words.
-use Rattle.std.specs.Prelude.{◌++◌, ◌||◌, ◌&&◌, ℕ, zero, suc, ℤ, pos, ◌+ℤ◌, Bool, true, false, not, List, [], ◌∷◌, Option, Some, None, if◌then◌else◌, length, get_or}
+use Rattle.std.specs.Prelude.{◌++◌, ◌||◌, ◌&&◌, ℕ, zero, suc, ℤ, pos, ◌+ℤ◌, Bool, true, false, not, List, [], ◌∷◌, Option, Some, None, if◌then◌else◌}
 use Rattle.std.specs.List.{list_any, fold}
 use Rattle.std.specs.Ordering.{int_eq}
 use lib.Signed.{lt_z}

@@ -1,6 +1,6 @@
 -- The faults of the rows of ARCDATA, in the order in which they are looked for.
 -- The promise of `network` to tell the first fault rests on them.
-use Rattle.std.specs.Prelude.{◌++◌, ◌+◌, ℕ, Bool, true, false, not, List, [], ◌∷◌, Option, Some, None, length, take, get_or, codes}
+use Rattle.std.specs.Prelude.{◌++◌, ℕ, Bool, true, false, not, List, [], ◌∷◌, Option, Some, None, length, take, get_or, codes}
 use Rattle.std.specs.Bool.{nat_lt, nat_le}
 use Rattle.std.specs.List.{list_any}
 use Rattle.std.specs.Str.{bytes_eq}

@@ -1,7 +1,7 @@
 -- What naming a node and giving it a value leave.
 -- The contracts of `Nodes` and of the passes over rows rest on it.
-use Rattle.std.specs.Prelude.{◌≡◌, ◌<◌, ℕ, [], List, Option, Some, None, length, get_or, slice_set}
-use Rattle.nf_cells.specs.Names.{Name, has_name, place_of}
+use Rattle.std.specs.Prelude.{◌≡◌, ◌<◌, ℕ, [], Some, None, length, get_or, slice_set}
+use Rattle.nf_cells.specs.Names.{Name, place_of}
 use Rattle.nf_cells.specs.declared.values.Cell.{Cell}
 use Rattle.nf_cells.specs.declared.values.Cell.TheVariants.{Missing, Bad, Is}
 use Rattle.nf_cells.specs.declared.values.Supply.{Supply}

@@ -1,6 +1,6 @@
 -- The problem as it is made: columns behind columns, and what a call of the builder asks for.
 -- What each step of making the problem leaves is said by these words.
-use Rattle.std.specs.Prelude.{◌≡◌, ◌+◌, ◌++◌, ◌≤◌, ◌<◌, ◌^◌, ℕ, Bool, false, List, [], ◌∷◌, Option, Some, None, length, map, get_or, pos, if◌then◌else◌}
+use Rattle.std.specs.Prelude.{◌≡◌, ◌+◌, ◌++◌, ◌≤◌, ◌<◌, ◌^◌, ℕ, Bool, false, List, [], ◌∷◌, Option, Some, length, map, get_or, pos, if◌then◌else◌}
 use Rattle.std.specs.List.{All}
 use Rattle.nf_cells.specs.Names.{Name}
 use Rattle.nf_cells.specs.declared.values.Supply.{Supply}

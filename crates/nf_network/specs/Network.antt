@@ -1,6 +1,6 @@
 -- The network of ARCDATA and NODEDATA, with its labels, or the first fault of the data: what `network` promises.
 -- It is a function of whole lists of rows. CONDATA adds columns, rows and entries to this program.
-use Rattle.std.specs.Prelude.{◌++◌, ℕ, ℤ, neg_ℤ, pos, Bool, List, [], ◌∷◌, Option, Some, None, Result, Ok, Err, if◌then◌else◌, length, map, get_or, unwrap_or, codes}
+use Rattle.std.specs.Prelude.{◌++◌, ℕ, neg_ℤ, pos, Bool, List, [], ◌∷◌, Option, Some, None, Result, Ok, Err, if◌then◌else◌, length, map, get_or, unwrap_or, codes}
 use Rattle.std.specs.Borrow.{Bor}
 use Rattle.std.specs.List.{flat_map}
 use Rattle.nf_num.specs.Rational.{ℚ, frac, neg_ℚ, zero_ℚ}
@@ -32,7 +32,7 @@ use Rattle.nf_network.specs.Rows.{ArcRow, NodeRow, arc_rows, node_rows}
 use Rattle.nf_network.specs.Arcs.{tail_of, head_of, arc_name, figures_of, given}
 use Rattle.nf_network.specs.Faults.{excess, first_arc_fault}
 use Rattle.nf_network.specs.NodeData.{all_nodes, first_node_fault, first_option_fault, gifts_to}
-use Rattle.nf_network.specs.Excess.{joined_below, thousandths_of, total, balance_of, has_excess, for_each}
+use Rattle.nf_network.specs.Excess.{joined_below, thousandths_of, balance_of, has_excess, for_each}
 
 -- ---- columns
 -- The bound of an option as a bound of data.

@@ -1,6 +1,6 @@
 -- What NODEDATA and the options SOURCE=, SINK=, SUPPLY= and DEMAND= add to the arcs, and their faults.
 -- The network and the promise of its first fault rest on them.
-use Rattle.std.specs.Prelude.{◌++◌, ◌+◌, ℕ, neg_ℤ, Bool, true, false, not, List, [], ◌∷◌, Option, Some, None, if◌then◌else◌, length, map, take, get_or, codes}
+use Rattle.std.specs.Prelude.{◌++◌, ℕ, neg_ℤ, Bool, false, not, List, [], ◌∷◌, Option, Some, None, if◌then◌else◌, length, map, take, get_or, codes}
 use Rattle.std.specs.Bool.{nat_lt}
 use Rattle.std.specs.List.{flat_map}
 use Rattle.std.specs.Str.{bytes_eq}

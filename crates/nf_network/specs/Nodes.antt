@@ -1,9 +1,7 @@
 -- The nodes so far, each with what it was given.
 -- The contracts of `Nodes` rest on it.
-use Rattle.std.specs.Prelude.{◌≡◌, ◌++◌, ℕ, List, [], ◌∷◌, Option, Some, None, if◌then◌else◌, get_or, slice_set}
+use Rattle.std.specs.Prelude.{◌++◌, List, [], ◌∷◌, Option, None, if◌then◌else◌, get_or}
 use Rattle.nf_cells.specs.Names.{Name, has_name, place_of}
-use Rattle.nf_cells.specs.declared.values.Cell.{Cell}
-use Rattle.nf_cells.specs.declared.values.Cell.TheVariants.{Missing, Bad, Is}
 use Rattle.nf_cells.specs.declared.values.Supply.{Supply}
 
 -- Names in order, and as many values.

@@ -1,6 +1,6 @@
 -- The faults and gifts of options, by the nodes so far.
 -- The promise of the pass over the options rests on it.
-use Rattle.std.specs.Prelude.{◌≡◌, not, Option, None, Some, codes}
+use Rattle.std.specs.Prelude.{not, Option, None, Some, codes}
 use Rattle.nf_frac.specs.declared.amount.Amount.{Amount}
 use Rattle.nf_cells.specs.Names.{Name, has_name, place_of}
 use Rattle.nf_cells.specs.declared.values.Cell.TheVariants.{Is}

@@ -1,16 +1,15 @@
 -- How a pass over the rows of ARCDATA stands after some of them.
 -- The promise of `read_arcs` rests on it.
-use Rattle.std.specs.Prelude.{◌≡◌, ◌++◌, ◌+◌, ℕ, true, false, List, [], ◌∷◌, Option, Some, None, map, length, take, get_or}
+use Rattle.std.specs.Prelude.{◌≡◌, ◌++◌, ℕ, true, false, List, [], ◌∷◌, Option, None, map, get_or}
 use Rattle.nf_cells.specs.Names.{Name, has_name, place_of, with_name, first_seen, is_once}
-use Rattle.nf_cells.specs.declared.values.Cell.{Cell}
 use Rattle.nf_roles.specs.declared.fault.CellFault.{CellFault}
 use Rattle.nf_program.specs.declared.program.Role.TheVariants as role
 use Rattle.nf_network.specs.declared.rows.Defaults.{Defaults}
 use Rattle.nf_network.specs.declared.rows.Figures.{Figures}
 use Rattle.nf_network.specs.Rows.{ArcRow}
-use Rattle.nf_roles.specs.First.{first_of, IsFaultOf}
-use Rattle.nf_network.specs.Arcs.{Gift, given, tail_of, head_of, arc_name, ends, gifts}
-use Rattle.nf_network.specs.Faults.{node_faults, gift_faults, name_faults, figure_faults, arc_fault_at}
+use Rattle.nf_roles.specs.First.{first_of}
+use Rattle.nf_network.specs.Arcs.{Gift, given, tail_of, head_of, ends, gifts}
+use Rattle.nf_network.specs.Faults.{node_faults, gift_faults}
 use Rattle.nf_network.specs.Nodes.{NodeList, with_node}
 use Rattle.nf_network.specs.Given.{given_after}
 use Rattle.nf_network.specs.Keys.{Key, key_in}

@@ -1,8 +1,7 @@
 -- What reading ARCDATA, NODEDATA and the options leaves: the nodes with their values, and the arcs with their figures.
 -- The promise of `network` rests on it.
-use Rattle.std.specs.Prelude.{◌≡◌, ℕ, List, Option, map}
+use Rattle.std.specs.Prelude.{◌≡◌, List, Option, map}
 use Rattle.nf_table.specs.Grid.{Grid}
-use Rattle.nf_cells.specs.declared.values.Supply.{Supply}
 use Rattle.nf_program.specs.declared.program.ProcOptions.{ProcOptions}
 use Rattle.nf_program.specs.declared.program.SetName.TheVariants as set
 use Rattle.nf_roles.specs.declared.fault.DataFault.{DataFault}

@@ -1,14 +1,13 @@
 -- The columns of roles are columns of the header.
-use Rattle.std.proofs.Common.{◌≡◌, ◌<◌, ◌^◌, ℕ, suc, zero, Bool, true, false, List, [], ◌∷◌, Option, Some, None, IfSome, cond, length, get_or, position, refl, arith}
+use Rattle.std.proofs.Common.{◌≡◌, ◌<◌, ◌^◌, ℕ, Bool, true, false, List, [], Option, Some, None, IfSome, cond, length, get_or, position, refl}
 use Rattle.std.proofs.lemmas.List.Quantifiers.{position-Some}
 use Rattle.std.specs.List.{find}
-use Rattle.nf_table.specs.Grid.{Cells, same_name, column_of}
+use Rattle.nf_table.specs.Grid.{Cells, same_name}
 use Rattle.nf_cells.specs.Names.{Name}
 use Rattle.nf_program.specs.declared.program.Role.{Role}
 use Rattle.nf_program.specs.declared.program.Role.TheVariants as role
 use Rattle.nf_roles.specs.declared.columns.SetKind.{SetKind}
 use Rattle.nf_roles.specs.declared.named.NamedColumn.{NamedColumn}
-use Rattle.nf_roles.specs.First.{first_with}
 use Rattle.nf_roles.specs.Sets.{has_role, roles_of, same_role, is_reserved_for}
 use Rattle.nf_roles.specs.Roles.{HasColumnsBelow, column_for}
 use Rattle.nf_roles.specs.Assigned.{columns_due, column_named, is_listed, is_variable, role_column}

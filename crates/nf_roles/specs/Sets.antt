@@ -1,6 +1,6 @@
 -- The roles of each data set: which it has, which it needs, and their reserved names.
 -- The roles that `assign` gives rest on these tables.
-use Rattle.std.specs.Prelude.{ℕ, Bool, List, [], ◌∷◌, codes, nat_eq}
+use Rattle.std.specs.Prelude.{Bool, List, [], ◌∷◌, codes, nat_eq}
 use Rattle.std.specs.List.{list_any}
 use Rattle.nf_table.specs.Grid.{same_name}
 use Rattle.nf_cells.specs.Names.{Name}

@@ -1,4 +1,4 @@
-use Rattle.std.proofs.Common.{◌≡◌, length, get_or, sym, ap, ◌∙◌, arith}
+use Rattle.std.proofs.Common.{length, get_or, sym, ap, ◌∙◌, arith}
 use Rattle.nf_network.specs.Keys.{no_key}
 use Rattle.nf_network.proofs.LabelFacts.{arcs-more, arcs-none}
 use Rattle.nf_network.proofs.Lists.{joined-ones}

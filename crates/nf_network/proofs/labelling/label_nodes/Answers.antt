@@ -1,4 +1,4 @@
-use Rattle.std.proofs.Common.{◌≡◌, [], None, length, get_or, sym, ap, ◌∙◌, arith}
+use Rattle.std.proofs.Common.{[], None, length, get_or, ap, ◌∙◌, arith}
 use Rattle.nf_network.specs.Network.{supdem_text}
 use Rattle.nf_network.proofs.LabelFacts.{nodes-more, nodes-none}
 use Rattle.nf_network.proofs.Lists.{joined-ones}

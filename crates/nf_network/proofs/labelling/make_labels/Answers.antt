@@ -1,4 +1,4 @@
-use Rattle.std.proofs.Common.{◌≡◌, ◌∙◌, [], None, length, get_or, refl, sym, ap, arith}
+use Rattle.std.proofs.Common.{◌≡◌, ◌∙◌, [], None, length, get_or, refl, ap, arith}
 use Rattle.nf_network.specs.Excess.{joined_below}
 use Rattle.nf_network.specs.Keys.{no_key}
 use Rattle.nf_network.specs.Making.{name_at}

@@ -1,4 +1,4 @@
-use Rattle.std.proofs.Common.{◌≡◌, ◌≤◌, ◌<◌, ◌+◌, ◌*◌, ◌∙◌, None, length, get_or, sym, ap, arith}
+use Rattle.std.proofs.Common.{◌≡◌, ◌+◌, ◌∙◌, None, length, get_or, sym, ap, arith}
 use Rattle.nf_network.specs.Excess.{gets, joined_below, sends}
 use Rattle.nf_network.specs.Network.{excess_column, excess_columns_at}
 use Rattle.nf_network.proofs.Lists.{joined-none, joined-short}

@@ -1,8 +1,8 @@
-use Rattle.std.proofs.Common.{◌≡◌, ◌≤◌, ◌<◌, ◌∙◌, length, get_or, sym, ap, arith}
+use Rattle.std.proofs.Common.{◌≤◌, ◌∙◌, length, get_or, ap, arith}
 use Rattle.nf_network.specs.Excess.{balance_of, joined_below}
 use Rattle.nf_network.specs.Faults.{most_arcs, most_nodes}
 use Rattle.nf_network.specs.Keys.{no_key}
-use Rattle.nf_network.specs.Making.{column_at, column_made, no_figures, nodes_program, with_arcs, with_excess}
+use Rattle.nf_network.specs.Making.{column_at, column_made, no_figures, nodes_program, with_excess}
 use Rattle.nf_network.proofs.Lists.{joined-ones}
 use Rattle.nf_network.proofs.MakingFacts.{excess-columns, excess-of, few-columns, made, of-arcs}
 use Rattle.nf_network.proofs.making.make_problem.Goals as goal

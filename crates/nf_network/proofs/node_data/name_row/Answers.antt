@@ -1,7 +1,7 @@
-use Rattle.std.proofs.Common.{◌≡◌, ◌≢◌, ◌≤◌, false, true, length, inr, sym, ap, ◌∙◌, refl, arith, rules}
+use Rattle.std.proofs.Common.{◌≡◌, false, true, ap, arith, rules}
 use Rattle.std.specs.Str.{bytes_eq}
 use Rattle.nf_cells.specs.Values.{cell_now}
-use Rattle.nf_cells.specs.Names.{has_name, place_of}
+use Rattle.nf_cells.specs.Names.{has_name}
 use Rattle.nf_cells.proofs.SeenFacts.{place-other}
 use Rattle.nf_network.specs.Faults.{excess}
 use Rattle.nf_network.proofs.NodePassFacts.{absent-if, name-fault, name-repeated, named-row}

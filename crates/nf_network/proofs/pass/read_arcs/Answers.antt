@@ -1,6 +1,5 @@
-use Rattle.std.proofs.Common.{◌≡◌, ◌≤◌, ◌<◌, ◌∙◌, length, take, inl, inr, sym, ap, arith}
+use Rattle.std.proofs.Common.{◌≡◌, ◌<◌, length, take, inl, inr, arith}
 use Rattle.std.proofs.lemmas.List.{take_all}
-use Rattle.nf_network.specs.Pass.{IsAfter}
 use Rattle.nf_network.specs.Rows.{arc_rows}
 use Rattle.nf_network.proofs.PassFacts.{IsClearBelow, after-none, clear-none, clear-more, fault-found, rows-length}
 use Rattle.nf_network.proofs.pass.read_arcs.Goals as goal

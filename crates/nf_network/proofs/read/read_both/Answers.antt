@@ -1,9 +1,9 @@
-use Rattle.std.proofs.Common.{◌≡◌, ◌<◌, ◌+◌, ◌∙◌, [], ◌∷◌, None, length, map, take, get_or, inl, inr, sym, ap, arith}
+use Rattle.std.proofs.Common.{◌≡◌, ◌<◌, ◌+◌, ◌∙◌, [], ◌∷◌, length, take, get_or, inl, inr, sym, ap, arith}
 use Rattle.std.proofs.lemmas.List.{take_all}
 use Rattle.nf_program.specs.declared.program.SetName.TheVariants as set
-use Rattle.nf_roles.specs.First.{first_row_fault, in_row}
+use Rattle.nf_roles.specs.First.{in_row}
 use Rattle.nf_roles.proofs.Lists.{found, none-more, none-yet}
-use Rattle.nf_network.specs.NodeData.{first_node_fault, node_fault_at, node_name}
+use Rattle.nf_network.specs.NodeData.{first_node_fault, node_fault_at}
 use Rattle.nf_network.specs.Rows.{arc_rows, node_row, node_rows}
 use Rattle.nf_network.proofs.NodePassFacts.{faults-same, node-at, node-fault, nodes-length, nodes-more, read-none, row-clear, row-read, seen-more}
 use Rattle.nf_network.proofs.ReadFacts.{rows-clear, rows-node, told}

@@ -1,4 +1,4 @@
-use Rattle.std.proofs.Common.{◌≡◌, ◌≤◌, None, length, map, take}
+use Rattle.std.proofs.Common.{◌≡◌, None, map, take}
 use Rattle.nf_roles.specs.First.{first_row_fault}
 use Rattle.nf_network.specs.NodeData.{node_fault_at, node_name}
 use Rattle.nf_network.specs.NodePass.{IsRead}

@@ -1,4 +1,3 @@
-use Rattle.std.proofs.Common.{length}
 use Rattle.nf_roles.proofs.Below.{due-below}
 use Rattle.nf_roles.proofs.assigned.assign_named.Goals as goal
 

@@ -1,4 +1,4 @@
-use Rattle.std.proofs.Common.{[], length, get_or, sym, arith}
+use Rattle.std.proofs.Common.{length, sym, arith}
 use Rattle.nf_roles.specs.Assigned.{has_two}
 use Rattle.nf_roles.specs.First.{number_if}
 use Rattle.nf_roles.proofs.Lists.{none-yet, with-found, with-none}

@@ -1,4 +1,4 @@
-use Rattle.std.proofs.Common.{◌≡◌, ◌≤◌, [], None, get_or, length}
+use Rattle.std.proofs.Common.{◌≡◌, ◌≤◌, None, length}
 use Rattle.nf_roles.specs.First.{first_with}
 use Rattle.nf_roles.specs.Assigned.{has_two}
 use Rattle.nf_roles.proofs.assigned.first_with_two.Given as goal

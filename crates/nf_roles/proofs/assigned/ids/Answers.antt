@@ -1,4 +1,4 @@
-use Rattle.std.proofs.Common.{[], length, get_or, sym, ap, ◌∙◌, arith}
+use Rattle.std.proofs.Common.{[], get_or, sym, ◌∙◌, arith}
 use Rattle.nf_program.specs.declared.program.Role.TheVariants as role
 use Rattle.nf_roles.specs.Assigned.{is_listed}
 use Rattle.nf_roles.proofs.Lists.{all-none, all-more, all-short}

@@ -1,4 +1,4 @@
-use Rattle.std.proofs.Common.{[], length, get_or, sym, ap, ◌∙◌, arith}
+use Rattle.std.proofs.Common.{[], get_or, sym, ◌∙◌, arith}
 use Rattle.nf_roles.specs.Assigned.{is_variable}
 use Rattle.nf_roles.proofs.Lists.{all-none, all-more}
 use Rattle.nf_roles.proofs.assigned.variables.Goals as goal

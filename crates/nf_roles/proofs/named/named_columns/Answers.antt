@@ -1,4 +1,3 @@
-use Rattle.std.proofs.Common.{sym, ◌∙◌}
 use Rattle.nf_roles.specs.Assigned.{named_by}
 use Rattle.nf_roles.proofs.Lists.{flat-more}
 use Rattle.nf_roles.proofs.named.named_columns.Goals as goal

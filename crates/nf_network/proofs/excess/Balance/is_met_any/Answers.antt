@@ -1,4 +1,4 @@
-use Rattle.std.proofs.Common.{None, length, sym, arith}
+use Rattle.std.proofs.Common.{None, sym, arith}
 use Rattle.std.proofs.lemmas.List.{take_all}
 use Rattle.nf_network.specs.Excess.{is_met}
 use Rattle.nf_network.proofs.Lists.{any-here, any-next}

@@ -1,4 +1,4 @@
-use Rattle.std.proofs.Common.{◌≡◌, ◌∙◌, ◌+◌, None, length, take, get_or, sym, ap, arith}
+use Rattle.std.proofs.Common.{◌∙◌, None, get_or, sym, ap, arith}
 use Rattle.std.proofs.lemmas.List.{take_all}
 use Rattle.nf_network.specs.Balanced.{with_value}
 use Rattle.nf_network.specs.Excess.{balance_of}

@@ -1,4 +1,4 @@
-use Rattle.std.proofs.Common.{◌≡◌, ◌∙◌, ◌++◌, ◌∷◌, [], not, sym, ap, map}
+use Rattle.std.proofs.Common.{◌∙◌, ◌++◌, ◌∷◌, [], not, sym, ap, map}
 use Rattle.nf_network.specs.Keys.{has_key}
 use Rattle.nf_network.proofs.KeyFacts.{any-map, key-added}
 use Rattle.nf_network.proofs.keys.ArcKeys.add.Goals as goal

@@ -1,4 +1,4 @@
-use Rattle.std.proofs.Common.{◌≡◌, ◌≤◌, ◌<◌, ◌∙◌, sym, ap, length, false, arith, rules}
+use Rattle.std.proofs.Common.{◌≡◌, ◌≤◌, ◌<◌, length, false, arith, rules}
 use Rattle.std.specs.Str.{bytes_eq}
 use Rattle.nf_cells.specs.Names.{with_name}
 use Rattle.nf_network.specs.Faults.{excess, most_nodes}

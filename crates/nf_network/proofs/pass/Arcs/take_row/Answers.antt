@@ -1,8 +1,8 @@
-use Rattle.std.proofs.Common.{◌≡◌, ◌≤◌, ◌<◌, ◌∙◌, ◌+◌, length, take, get_or, None, sym, ap, arith}
-use Rattle.nf_network.specs.Faults.{empty_row, most_arcs}
+use Rattle.std.proofs.Common.{◌≤◌, ◌<◌, ◌∙◌, length, take, arith}
+use Rattle.nf_network.specs.Faults.{most_arcs}
 use Rattle.nf_network.specs.Rows.{arc_rows}
 use Rattle.nf_network.specs.Rows.{arc_row_now}
-use Rattle.nf_network.proofs.PassFacts.{at-row, fault-at, rows-more, row-limit, row-ends, row-name, row-figures, row-gives, row-clear, row-next, tail-below, head-below, even, new-even}
+use Rattle.nf_network.proofs.PassFacts.{at-row, fault-at, rows-more, row-limit, row-ends, row-name, row-figures, row-gives, row-clear, row-next, tail-below, head-below}
 use Rattle.nf_network.proofs.pass.Arcs.take_row.Goals as goal
 
 pub returns-in-Err : goal.returns-in-Err
