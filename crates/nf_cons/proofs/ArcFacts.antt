@@ -1,16 +1,14 @@
 -- Facts on arcs by their names.
-use Rattle.std.proofs.Common.{◌≡◌, ◌<◌, ◌≤◌, ◌||◌, ◌+◌, ◌++◌, ◌⊎◌, ℕ, zero, suc, Bool, true, false, not, cond, List, [], ◌∷◌, Option, Some, None, length, map, filter, get_or, set, take, refl, sym, ap, ◌∙◌, inl, inr, arith}
+use Rattle.std.proofs.Common.{◌≡◌, ◌<◌, ◌+◌, ◌++◌, ◌⊎◌, true, false, List, [], ◌∷◌, length, map, filter, get_or, refl, sym, ap, ◌∙◌, inl, inr, arith}
 use Rattle.std.proofs.lemmas.Bool.{false≢true, cases_Bool}
 use Rattle.std.proofs.lemmas.List.{map-append, length-append, get_or-map}
 use Rattle.std.proofs.lemmas.List.Elements.{filter-append}
 use Rattle.std.specs.Bool.{nat_lt}
 use Rattle.std.specs.Str.{bytes_eq}
-use Rattle.nf_cells.specs.Names.{Name, first_seen, has_name, is_once, number_of, place_of, with_name}
+use Rattle.nf_cells.specs.Names.{Name, first_seen, has_name, is_once, place_of, with_name}
 use Rattle.nf_cells.proofs.SeenFacts.{at-place, differs-sym, eq-self, first_seen-push, once-with, place-less}
 use Rattle.nf_network.proofs.PassFacts.{map-length}
-use Rattle.nf_cons.specs.declared.found.NamedArc.{NamedArc}
-use Rattle.nf_cons.specs.ArcList.{ArcList, AreArcs, arc_in, arc_named, no_arc, no_arcs, with_arc, with_found}
-use Rattle.nf_cons.specs.Variables.{is_shared}
+use Rattle.nf_cons.specs.ArcList.{ArcList, AreArcs, arc_in, no_arc, no_arcs, with_arc, with_found}
 use Rattle.nf_cons.proofs.NameFacts.{agree, has-seen, not-same, place-front, place-none, set-at}
 
 -- ---- how often a name is there

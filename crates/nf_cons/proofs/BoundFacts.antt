@@ -1,5 +1,5 @@
 -- Facts on the bounds of nonarc variables.
-use Rattle.std.proofs.Common.{◌≡◌, ◌+◌, ℕ, true, false, List, Option, Some, None, get_or, refl}
+use Rattle.std.proofs.Common.{◌≡◌, ◌+◌, ℕ, true, false, List, Some, None, get_or, refl}
 use Rattle.nf_network.specs.Faults.{are_crossed}
 use Rattle.nf_cons.specs.declared.places.Home.{Home}
 use Rattle.nf_cons.specs.declared.taken.Figures.{Figures}

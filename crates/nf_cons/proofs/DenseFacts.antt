@@ -1,9 +1,8 @@
 -- Facts on the rows of dense CONDATA: what the pass finds is what the rows say.
-use Rattle.std.proofs.Common.{◌≡◌, ◌<◌, ◌≤◌, ◌+◌, ◌++◌, ◌⊎◌, ℕ, zero, suc, Bool, true, false, List, [], ◌∷◌, Option, Some, None, length, map, take, get_or, refl, sym, ap, ◌∙◌, inl, inr, arith, append_assoc}
+use Rattle.std.proofs.Common.{◌≡◌, ◌<◌, ◌≤◌, ◌+◌, ◌++◌, ℕ, suc, true, false, List, [], ◌∷◌, None, length, map, get_or, refl, sym, ap, ◌∙◌, inr, arith, append_assoc}
 use Rattle.std.proofs.lemmas.List.{append-nil, length-append, get_or-map}
 use Rattle.std.specs.Bool.{nat_le}
-use Rattle.std.specs.List.{fold}
-use Rattle.nf_table.specs.Grid.{Cells, Grid}
+use Rattle.nf_table.specs.Grid.{Grid}
 use Rattle.nf_cells.specs.Names.{Name, has_name}
 use Rattle.nf_cells.specs.Values.{bound_in}
 use Rattle.nf_cells.specs.declared.values.Cell.{Cell}
@@ -16,12 +15,11 @@ use Rattle.nf_roles.specs.Roles.{RoleColumns}
 use Rattle.nf_network.specs.Excess.{joined_below}
 use Rattle.nf_network.specs.Faults.{is_bad}
 use Rattle.nf_network.proofs.Lists.{joined-more, joined-none, joined-ones}
-use Rattle.nf_network.proofs.PassFacts.{map-length}
 use Rattle.nf_cons.specs.declared.places.Place.TheVariants.{OfRole, Column}
 use Rattle.nf_cons.specs.declared.places.PlacedFault.{PlacedFault}
 use Rattle.nf_cons.specs.declared.types.RowType.{RowType}
 use Rattle.nf_cons.specs.Places.{IsFaultOf, fault_if, first_of}
-use Rattle.nf_cons.specs.Terms.{Given, TermLists, lists_of, term_faults, with_given}
+use Rattle.nf_cons.specs.Terms.{Given, TermLists, lists_of, term_faults}
 use Rattle.nf_cons.specs.Dense.{Dense, cell_at, cell_fault_at, cell_faults, cell_term, dense_row, given_at, given_before, given_by, given_in, givens, head_faults, most_coefficients, name_faults, names, names_at, no_row, right_at, right_faults, row_at, row_fault_at, row_name, side_at, side_if, sides, type_at, type_faults}
 use Rattle.nf_cons.specs.Types.{side_kind}
 use Rattle.nf_cons.specs.Naming.{VariableList}

@@ -1,23 +1,20 @@
 -- What is read of dense CONDATA is what it says, and it can be added.
-use Rattle.std.proofs.Common.{◌≡◌, ◌<◌, ◌≤◌, ◌+◌, ℕ, List, None, length, map, get_or, refl, sym, ap, ◌∙◌, arith}
-use Rattle.std.proofs.lemmas.List.Elements.{All-weaker}
-use Rattle.std.specs.List.{All}
+use Rattle.std.proofs.Common.{◌≡◌, ◌<◌, ◌+◌, ℕ, List, None, length, map, get_or, refl, ap, ◌∙◌, arith}
 use Rattle.nf_table.specs.Grid.{Grid}
 use Rattle.nf_cells.specs.Names.{Name}
 use Rattle.nf_program.specs.declared.program.ProcOptions.{ProcOptions}
-use Rattle.nf_roles.specs.First.{or_else}
 use Rattle.nf_roles.specs.Roles.{RoleColumns}
 use Rattle.nf_network.proofs.PassFacts.{map-length}
 use Rattle.nf_cons.specs.declared.taken.SideRow.{SideRow}
 use Rattle.nf_cons.specs.Bounds.{defaults_of, first_bound_fault}
-use Rattle.nf_cons.specs.Dense.{Dense, dense_row, first_header_fault, first_row_fault, givens, mentions, names, sides}
+use Rattle.nf_cons.specs.Dense.{dense_row, first_header_fault, first_row_fault, givens, mentions, names, sides}
 use Rattle.nf_cons.specs.Due.{bounds_fault, dense_constraints, dense_fault, dense_of}
-use Rattle.nf_cons.specs.Making.{AreConstraints, AreReady, IsPlaced}
+use Rattle.nf_cons.specs.Making.{AreConstraints, AreReady}
 use Rattle.nf_cons.specs.Naming.{VariableList}
 use Rattle.nf_cons.specs.Passing.{IsHeaderRead}
 use Rattle.nf_cons.specs.Terms.{TermLists, lists_of}
 use Rattle.nf_cons.specs.Types.{default_type}
-use Rattle.nf_cons.specs.Variables.{Mention, nonarcs, number_in}
+use Rattle.nf_cons.specs.Variables.{nonarcs, number_in}
 use Rattle.nf_cons.proofs.DenseFacts.{names-length}
 use Rattle.nf_cons.proofs.FaultFacts.{both}
 use Rattle.nf_cons.proofs.HeaderFacts.{numbers-apart, number-below}

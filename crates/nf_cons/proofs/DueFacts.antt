@@ -1,5 +1,5 @@
 -- The network with constraints is the one that is due.
-use Rattle.std.proofs.Common.{◌≡◌, ◌⊎◌, ◌<◌, ◌≤◌, ◌+◌, ◌++◌, ℕ, false, List, Some, None, Ok, Err, length, map, take, refl, sym, ap, ◌∙◌, inl, inr, arith}
+use Rattle.std.proofs.Common.{◌≡◌, ◌⊎◌, ◌≤◌, List, None, Ok, Err, length, map, refl, sym, ap, ◌∙◌, inl, inr, arith}
 use Rattle.std.proofs.lemmas.List.{length-append, length-take-le}
 use Rattle.nf_labels.specs.Labels.{AreNumbered, LabelList}
 use Rattle.nf_table.specs.Grid.{Grid}
@@ -8,15 +8,14 @@ use Rattle.nf_program.specs.declared.program.ProcOptions.{ProcOptions}
 use Rattle.nf_roles.specs.declared.fault.DataFault.{DataFault}
 use Rattle.nf_roles.specs.declared.fault.DataKind.TheVariants as kind
 use Rattle.nf_roles.specs.Roles.{RoleColumns}
-use Rattle.nf_network.specs.Faults.{are_crossed}
 use Rattle.nf_network.specs.Network.{Network}
 use Rattle.nf_network.proofs.PassFacts.{map-length}
 use Rattle.nf_cons.specs.declared.places.RowFault.{RowFault}
 use Rattle.nf_cons.specs.declared.taken.SideRow.{SideRow}
-use Rattle.nf_cons.specs.Bounds.{bound_fault_at, defaults_of, figures_of}
-use Rattle.nf_cons.specs.Constrained.{Constraints, constrained, constrained_labels, constrained_program, nonarc_column_at, side_name, side_row, with_columns, with_rows}
+use Rattle.nf_cons.specs.Bounds.{bound_fault_at, defaults_of}
+use Rattle.nf_cons.specs.Constrained.{constrained_labels, constrained_program, nonarc_column_at, side_name, side_row, with_columns, with_rows}
 use Rattle.nf_cons.specs.Dense.{first_header_fault, first_row_fault, mentions}
-use Rattle.nf_cons.specs.Due.{bounds_fault, dense_constraints, dense_due, dense_fault, dense_of, unless_fault}
+use Rattle.nf_cons.specs.Due.{bounds_fault, dense_constraints, dense_due, dense_fault, dense_of}
 use Rattle.nf_cons.specs.Making.{AreConstraints, AreInOrder, IsPlain}
 use Rattle.nf_cons.specs.Naming.{VariableList}
 use Rattle.nf_cons.specs.Places.{IsRowFaultOf, told}

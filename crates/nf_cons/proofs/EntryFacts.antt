@@ -1,12 +1,12 @@
 -- Facts on adding entries to a program: where there is room for one, and what stays.
-use Rattle.std.proofs.Common.{◌≡◌, ◌≢◌, ◌<◌, ◌≤◌, ◌+◌, ◌-◌, ◌++◌, ◌&&◌, ◌||◌, ◌⊎◌, ℕ, zero, suc, Bool, true, false, not, cond, List, [], ◌∷◌, Option, Some, None, length, map, take, get_or, set, nat_eq, nat_lt, refl, sym, ap, ◌∙◌, inl, inr, arith}
+use Rattle.std.proofs.Common.{◌≡◌, ◌≢◌, ◌<◌, ◌≤◌, ◌+◌, ◌-◌, ◌&&◌, ◌⊎◌, ℕ, zero, suc, Bool, true, false, cond, List, [], ◌∷◌, length, take, get_or, nat_eq, nat_lt, refl, sym, ap, ◌∙◌, inl, inr, arith}
 use Rattle.std.proofs.lemmas.Bool.{false≢true, cases_Bool, cases_lt}
 use Rattle.std.proofs.lemmas.Bool.Decides.{Decides-eqb}
-use Rattle.std.proofs.lemmas.List.{append-nil, get_or-set_same, get_or-set_other, length-set, take_more}
+use Rattle.std.proofs.lemmas.List.{get_or-set_same, get_or-set_other, length-set, take_more}
 use Rattle.std.proofs.lemmas.List.Elements.{All-cons, All-get_or, All-head, All-nil, All-tail, All-take, All-weaker}
 use Rattle.std.proofs.lemmas.List.Sums.{fold-append}
-use Rattle.std.specs.List.{All, fold, list_any}
-use Rattle.nf_num.specs.Rational.{ℚ, zero_ℚ}
+use Rattle.std.specs.List.{All, list_any}
+use Rattle.nf_num.specs.Rational.{ℚ}
 use Rattle.nf_frac.specs.Amounts.{amount_value}
 use Rattle.nf_model.specs.Program.{Column, Entry, LinearProgram, column}
 use Rattle.nf_prob.specs.Building.{IsNew, inserted, with_entry}

@@ -1,9 +1,8 @@
 -- Facts on the first of some faults.
-use Rattle.std.proofs.Common.{◌≡◌, ◌++◌, ◌⊎◌, ◌+◌, ◌<◌, ◌≤◌, ℕ, zero, suc, Bool, true, false, List, [], ◌∷◌, Option, Some, None, refl, sym, ap, ◌∙◌, inl, inr, arith}
-use Rattle.std.proofs.lemmas.Bool.{false≢true, cases_lt}
+use Rattle.std.proofs.Common.{◌≡◌, ◌++◌, ◌⊎◌, ◌+◌, ◌<◌, ◌≤◌, ℕ, zero, suc, Bool, true, false, List, [], ◌∷◌, Option, Some, None, refl, sym, ap, inl, inr, arith}
+use Rattle.std.proofs.lemmas.Bool.{cases_lt}
 use Rattle.nf_roles.specs.First.{first_below, or_else}
 use Rattle.nf_roles.specs.declared.fault.DataKind.{DataKind}
-use Rattle.nf_roles.specs.declared.fault.DataKind.TheVariants as kind
 use Rattle.nf_roles.proofs.Lists.{found, none-more}
 use Rattle.nf_cons.specs.declared.places.Place.{Place}
 use Rattle.nf_cons.specs.declared.places.PlacedFault.{PlacedFault}

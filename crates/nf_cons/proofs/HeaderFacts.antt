@@ -1,5 +1,5 @@
 -- Facts on the header of dense CONDATA.
-use Rattle.std.proofs.Common.{◌≡◌, ◌≢◌, ◌<◌, ◌≤◌, ◌+◌, ◌^◌, ◌++◌, ◌||◌, ◌⊎◌, ℕ, zero, suc, Bool, true, false, not, List, [], ◌∷◌, Option, Some, None, length, map, take, drop, get_or, refl, sym, ap, ◌∙◌, inl, inr, arith}
+use Rattle.std.proofs.Common.{◌≡◌, ◌≢◌, ◌<◌, ◌+◌, ◌^◌, ◌++◌, ◌||◌, ◌⊎◌, ℕ, zero, suc, Bool, true, false, not, List, [], ◌∷◌, None, length, map, take, drop, get_or, refl, sym, ap, ◌∙◌, inl, inr, arith}
 use Rattle.std.proofs.lemmas.Bool.{false≢true, cases_Bool}
 use Rattle.std.specs.Str.{bytes_eq}
 use Rattle.std.proofs.lemmas.List.{get_or-map, get_or-take, length-append, length-take-le, map-append, take-append-drop, take_more}
@@ -9,12 +9,11 @@ use Rattle.nf_cells.proofs.SeenFacts.{at-place, eq-self, place-less}
 use Rattle.nf_network.specs.Faults.{excess}
 use Rattle.nf_cells.specs.Names.{Name, first_seen, has_name}
 use Rattle.nf_roles.specs.declared.fault.DataKind.TheVariants as kind
-use Rattle.nf_roles.specs.First.{or_else}
 use Rattle.nf_roles.specs.Roles.{RoleColumns}
 use Rattle.nf_network.proofs.PassFacts.{map-length}
 use Rattle.nf_cons.specs.declared.places.Place.TheVariants.{Column}
 use Rattle.nf_cons.specs.ArcList.{ArcList, AreArcs, arc_in}
-use Rattle.nf_cons.specs.Dense.{column_fault_at, column_faults, first_header_fault, mention_at, mentions, no_mention}
+use Rattle.nf_cons.specs.Dense.{column_fault_at, first_header_fault, mention_at, mentions, no_mention}
 use Rattle.nf_cons.specs.Naming.{VariableList, faults_now, number_now, with_mention}
 use Rattle.nf_cons.specs.Passing.{AreNamed, column_faults_now}
 use Rattle.nf_cons.specs.Places.{fault_if, first_of, in_row}

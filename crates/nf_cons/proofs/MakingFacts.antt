@@ -1,25 +1,21 @@
 -- Facts on adding constraints to a network.
-use Rattle.std.proofs.Common.{◌≡◌, ◌≢◌, ◌<◌, ◌≤◌, ◌+◌, ◌-◌, ◌++◌, ◌&&◌, ◌||◌, ◌⊎◌, ℕ, zero, suc, Bool, true, false, not, cond, List, [], ◌∷◌, Option, Some, None, length, map, take, get_or, set, nat_eq, nat_lt, refl, sym, ap, ◌∙◌, inl, inr, arith, append_assoc}
-use Rattle.std.proofs.lemmas.Bool.{false≢true, cases_Bool}
-use Rattle.std.proofs.lemmas.List.{append-nil, map-append, length-append, take_all, take_more}
+use Rattle.std.proofs.Common.{◌≡◌, ◌<◌, ◌≤◌, ◌+◌, ◌++◌, ℕ, zero, suc, true, List, [], ◌∷◌, length, map, take, get_or, nat_lt, refl, sym, ap, ◌∙◌, arith, append_assoc}
+use Rattle.std.proofs.lemmas.List.{append-nil, map-append, take_more}
 use Rattle.std.proofs.lemmas.List.Elements.{All-append, All-cons, All-head, All-nil, All-tail}
-use Rattle.std.specs.List.{All, fold, list_any}
+use Rattle.std.specs.List.{All}
 use Rattle.nf_num.specs.Rational.{ℚ}
-use Rattle.nf_frac.specs.Amounts.{amount_value}
 use Rattle.nf_model.specs.declared.RowKind.{RowKind}
-use Rattle.nf_model.specs.Program.{Column, Entry, LinearProgram, Row, column}
-use Rattle.nf_prob.specs.Building.{inserted, with_column, with_entry, with_row}
+use Rattle.nf_model.specs.Program.{Column, LinearProgram, Row}
+use Rattle.nf_prob.specs.Building.{with_row}
 use Rattle.nf_labels.specs.Labels.{LabelList}
 use Rattle.nf_cells.specs.Names.{Name}
 use Rattle.nf_program.specs.declared.program.ProcOptions.{ProcOptions}
 use Rattle.nf_network.specs.Excess.{joined_below}
-use Rattle.nf_network.proofs.Lists.{joined-more, joined-none, joined-ones}
-use Rattle.nf_network.proofs.PassFacts.{map-length}
+use Rattle.nf_network.proofs.Lists.{joined-ones}
 use Rattle.nf_cons.specs.declared.taken.Coefficient.{Coefficient}
-use Rattle.nf_cons.specs.declared.taken.SideRow.{SideRow}
 use Rattle.nf_cons.specs.Bounds.{defaults_of, figures_of}
-use Rattle.nf_cons.specs.Constrained.{column_of, nonarc_column, nonarc_column_at, side_name, side_row, with_coefficient, with_coefficients, with_columns, with_rows}
-use Rattle.nf_cons.specs.Making.{HasEntriesBelow, IsPlaced, are_apart, before, same_place}
+use Rattle.nf_cons.specs.Constrained.{column_of, nonarc_column, nonarc_column_at, with_coefficient, with_coefficients, with_columns, with_rows}
+use Rattle.nf_cons.specs.Making.{HasEntriesBelow, IsPlaced, before}
 use Rattle.nf_cons.specs.Terms.{TermLists}
 
 -- ---- lists with one member more

@@ -1,13 +1,11 @@
 -- Facts on lists of names: which are there, where they stand, and values at their places.
-use Rattle.std.proofs.Common.{◌≡◌, ◌≢◌, ◌<◌, ◌≤◌, ◌||◌, ◌+◌, ◌++◌, ◌⊎◌, ℕ, zero, suc, Bool, true, false, not, cond, List, [], ◌∷◌, length, map, filter, get_or, set, refl, sym, ap, ◌∙◌, inl, inr, arith}
+use Rattle.std.proofs.Common.{◌≡◌, ◌||◌, ◌+◌, ◌++◌, ◌⊎◌, suc, Bool, true, false, not, List, [], ◌∷◌, length, map, filter, set, refl, sym, ap, ◌∙◌, inl, inr, arith}
 use Rattle.std.proofs.lemmas.Bool.{false≢true, cases_Bool}
-use Rattle.std.proofs.lemmas.List.{append-nil, map-append, length-append}
 use Rattle.std.proofs.lemmas.List.Folds.{list_any-append}
 use Rattle.std.proofs.lemmas.Map.Views.{any-filter_same}
-use Rattle.std.specs.List.{list_any}
 use Rattle.std.specs.Str.{bytes_eq}
-use Rattle.nf_cells.specs.Names.{Name, first_seen, has_name, is_once, place_of, with_name}
-use Rattle.nf_cells.proofs.SeenFacts.{same, eq-self, differs-sym, first_seen-push, once-with, place-less, has-added, has-still}
+use Rattle.nf_cells.specs.Names.{Name, first_seen, has_name, is_once, place_of}
+use Rattle.nf_cells.proofs.SeenFacts.{same, eq-self, differs-sym}
 
 -- ---- which names are there
 has-others : (n x : Name) (ks : List Name) → bytes_eq n x ≡ false → has_name x (filter (λ m. not (bytes_eq n m)) ks) ≡ has_name x ks

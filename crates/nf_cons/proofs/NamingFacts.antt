@@ -1,19 +1,16 @@
 -- Facts on variables by their names.
-use Rattle.std.proofs.Common.{◌≡◌, ◌<◌, ◌≤◌, ◌||◌, ◌&&◌, ◌+◌, ◌++◌, ◌⊎◌, ℕ, zero, suc, Bool, true, false, not, cond, List, [], ◌∷◌, Option, Some, None, if◌then◌else◌, length, map, filter, get_or, refl, sym, ap, ◌∙◌, inl, inr, arith, append_assoc}
+use Rattle.std.proofs.Common.{◌≡◌, ◌<◌, ◌≤◌, ◌||◌, ◌+◌, ◌++◌, ◌⊎◌, ℕ, Bool, true, false, not, List, [], ◌∷◌, Some, None, if◌then◌else◌, length, map, filter, get_or, refl, sym, ap, ◌∙◌, inl, inr, arith, append_assoc}
 use Rattle.std.proofs.lemmas.Bool.{false≢true, cases_Bool}
-use Rattle.std.proofs.lemmas.List.{append-nil, map-append, length-append, get_or-map}
+use Rattle.std.proofs.lemmas.List.{append-nil, map-append, get_or-map}
 use Rattle.std.proofs.lemmas.List.Elements.{filter-append}
-use Rattle.std.proofs.lemmas.List.Folds.{find-append, list_any-append}
 use Rattle.std.proofs.lemmas.List.Sums.{prefix_len-le-length}
 use Rattle.std.specs.Bool.{nat_lt}
-use Rattle.std.specs.List.{find, list_any}
 use Rattle.std.specs.Option.{is_some}
 use Rattle.std.specs.Str.{bytes_eq}
 use Rattle.nf_cells.specs.Cells.{is_blank, is_name}
-use Rattle.nf_cells.specs.Names.{Name, first_seen, has_name, is_once, number_of, place_of, with_name}
+use Rattle.nf_cells.specs.Names.{Name, first_seen, has_name, number_of, place_of, with_name}
 use Rattle.nf_cells.proofs.SeenFacts.{at-place, eq-self, first_seen-push, has-added, place-less, place-other, same}
 use Rattle.nf_network.proofs.PassFacts.{map-length, place-added}
-use Rattle.nf_cons.specs.declared.found.NamedArc.{NamedArc}
 use Rattle.nf_cons.specs.declared.places.Home.{Home}
 use Rattle.nf_cons.specs.declared.places.PlacedFault.{PlacedFault}
 use Rattle.nf_cons.specs.ArcList.{ArcList, AreArcs, arc_in, arc_named, no_arc}
@@ -21,12 +18,12 @@ use Rattle.nf_roles.specs.First.{or_else}
 use Rattle.nf_roles.specs.declared.fault.DataKind.TheVariants as kind
 use Rattle.nf_network.specs.Faults.{excess}
 use Rattle.nf_cons.specs.Places.{IsFaultOf, fault_if, first_of}
-use Rattle.nf_cons.specs.Variables.{Mention, home_in, home_or, homes, is_arc, is_shared, most_nonarcs, names_in, nonarcs, number_in, variable_faults}
-use Rattle.nf_cons.specs.Naming.{IsSound, VariableList, faults_now, homes_with, is_shared_now, limit_faults, nonarcs_with, number_now, with_mention, with_nonarc}
+use Rattle.nf_cons.specs.Variables.{Mention, home_in, homes, is_arc, is_shared, most_nonarcs, names_in, nonarcs, number_in, variable_faults}
+use Rattle.nf_cons.specs.Naming.{VariableList, faults_now, is_shared_now, limit_faults, number_now, with_mention, with_nonarc}
 use Rattle.nf_cons.specs.Passing.{AreNamed, column_faults_now}
 use Rattle.nf_cons.proofs.ArcFacts.{count-none}
 use Rattle.nf_cons.proofs.FaultFacts.{or-first, or-second, passed}
-use Rattle.nf_cons.proofs.NameFacts.{agree, has-back, has-end, has-front, has-seen, not-same, place-back, place-front}
+use Rattle.nf_cons.proofs.NameFacts.{agree, has-back, has-front, has-seen, place-back, place-front}
 
 -- ---- what `add` answers
 within : (n : Name) (ks : List Name) → length (with_name ks n) ≤ most_nonarcs → nat_lt most_nonarcs (length (with_name ks n)) ≡ false

@@ -1,15 +1,15 @@
 -- A network of two tables is without constraints: its parts are numbered, it is small, and its entries stand at nodes.
-use Rattle.std.proofs.Common.{◌≡◌, ◌<◌, ◌≤◌, ◌+◌, ◌*◌, ◌^◌, ◌++◌, ◌||◌, ◌⊎◌, ℕ, zero, suc, Bool, true, false, cond, List, [], ◌∷◌, Option, Some, None, Ok, Err, length, map, get_or, nat_eq, nat_lt, refl, sym, ap, ◌∙◌, inl, inr, arith}
+use Rattle.std.proofs.Common.{◌≡◌, ◌<◌, ◌≤◌, ◌*◌, ◌++◌, ◌⊎◌, ℕ, zero, suc, Bool, true, false, cond, List, [], ◌∷◌, Option, Some, None, Ok, length, map, get_or, nat_eq, nat_lt, refl, sym, ◌∙◌, inl, inr, arith}
 use Rattle.std.proofs.lemmas.Bool.{cases_Bool}
 use Rattle.std.proofs.lemmas.List.{append-nil, length-append}
 use Rattle.std.proofs.lemmas.List.Elements.{All-append, All-cons, All-map, All-nil, All-weaker}
 use Rattle.std.specs.List.{All}
-use Rattle.nf_num.specs.Rational.{one_ℚ, neg_ℚ, zero_ℚ}
+use Rattle.nf_num.specs.Rational.{one_ℚ, neg_ℚ}
 use Rattle.nf_model.specs.declared.RowKind.TheVariants.{Eq}
-use Rattle.nf_model.specs.Program.{Column, Entry, Row}
+use Rattle.nf_model.specs.Program.{Entry, Row}
 use Rattle.nf_prob.specs.Building.{arc_entries}
 use Rattle.nf_table.specs.Grid.{Grid}
-use Rattle.nf_cells.specs.Names.{Name, first_seen, has_name, place_of}
+use Rattle.nf_cells.specs.Names.{Name, has_name, place_of}
 use Rattle.nf_cells.specs.declared.values.Supply.{Supply}
 use Rattle.nf_cells.proofs.SeenFacts.{eq-self, place-less}
 use Rattle.nf_program.specs.declared.program.ProcOptions.{ProcOptions}
@@ -17,15 +17,14 @@ use Rattle.nf_program.specs.declared.program.SetName.{SetName}
 use Rattle.nf_program.specs.declared.program.SetName.TheVariants as set
 use Rattle.nf_roles.specs.declared.fault.CellFault.{CellFault}
 use Rattle.nf_roles.specs.declared.fault.DataFault.{DataFault}
-use Rattle.nf_roles.specs.First.{or_else}
 use Rattle.nf_roles.specs.Roles.{RoleColumns}
 use Rattle.nf_table.specs.Grid.{Cells}
 use Rattle.nf_network.specs.Rows.{ArcRow, NodeRow, arc_row, arc_rows, node_rows}
 use Rattle.nf_network.specs.Arcs.{arc_name, ends, given, head_of, tail_of}
 use Rattle.nf_network.specs.Excess.{balance_of, gets, has_excess, joined_below, sends}
-use Rattle.nf_network.specs.Faults.{first_arc_fault, most_arcs, most_nodes}
+use Rattle.nf_network.specs.Faults.{first_arc_fault, most_nodes}
 use Rattle.nf_network.specs.NodeData.{all_nodes, first_node_fault, gifts_to, node_name}
-use Rattle.nf_network.specs.Network.{Network, arc_column, defaults_of, excess_column, excess_columns, excess_columns_at, excess_value, first_fault, if_excess, in_set, network_due, network_of, node_row, program_of, unless_fault, values}
+use Rattle.nf_network.specs.Network.{Network, arc_column, defaults_of, excess_column, excess_columns, excess_columns_at, excess_value, first_fault, if_excess, in_set, network_due, network_of, node_row, unless_fault, values}
 use Rattle.nf_network.proofs.FitFacts.{fit}
 use Rattle.nf_network.proofs.LimitFacts.{few-arcs, few-nodes}
 use Rattle.nf_network.proofs.Lists.{joined-short}
@@ -34,7 +33,7 @@ use Rattle.nf_network.proofs.PassFacts.{map-length}
 use Rattle.nf_cons.specs.Due.{IsNetworkOf}
 use Rattle.nf_cons.specs.Making.{HasEntriesBelow, IsPlain}
 use Rattle.nf_cons.proofs.FaultFacts.{or-first, or-second}
-use Rattle.nf_cons.proofs.NameFacts.{has-back, has-front, has-rest, has-seen}
+use Rattle.nf_cons.proofs.NameFacts.{has-front, has-rest, has-seen}
 
 -- ---- the network that is due
 no-fault : (s : SetName) (roles : RoleColumns) (header : Cells) (f : Option (ℕ × CellFault)) → in_set s roles header f ≡ None → f ≡ None

@@ -1,8 +1,8 @@
 -- What was read of dense CONDATA can be added: few constraints, numbers in range, no coefficient twice.
-use Rattle.std.proofs.Common.{◌≡◌, ◌≢◌, ◌<◌, ◌≤◌, ◌+◌, ◌++◌, ◌&&◌, ◌||◌, ◌⊎◌, ℕ, zero, suc, Bool, true, false, not, cond, List, [], ◌∷◌, Option, Some, None, length, map, get_or, nat_eq, refl, sym, ap, ◌∙◌, inl, inr, arith}
+use Rattle.std.proofs.Common.{◌≡◌, ◌≢◌, ◌<◌, ◌≤◌, ◌+◌, ◌++◌, ◌&&◌, ◌⊎◌, ℕ, zero, suc, Bool, true, false, List, [], ◌∷◌, Option, Some, None, length, get_or, nat_eq, refl, sym, ap, ◌∙◌, inl, inr, arith}
 use Rattle.std.proofs.lemmas.Bool.{false≢true, cases_Bool}
 use Rattle.std.proofs.lemmas.Bool.Decides.{Decides-eqb}
-use Rattle.std.proofs.lemmas.List.{append-nil, length-append}
+use Rattle.std.proofs.lemmas.List.{length-append}
 use Rattle.std.proofs.lemmas.List.Elements.{All-append, All-cons, All-head, All-nil, All-tail, All-weaker}
 use Rattle.std.proofs.lemmas.List.Folds.{list_any-append}
 use Rattle.std.proofs.lemmas.Grind.{flat_map-append}
@@ -22,11 +22,9 @@ use Rattle.nf_network.specs.Faults.{is_bad}
 use Rattle.nf_network.proofs.Lists.{joined-more, joined-none}
 use Rattle.nf_cons.specs.declared.places.Place.TheVariants.{OfRole}
 use Rattle.nf_cons.specs.declared.taken.Coefficient.{Coefficient}
-use Rattle.nf_cons.specs.declared.taken.SideRow.{SideRow}
-use Rattle.nf_cons.specs.declared.types.RowType.{RowType}
-use Rattle.nf_cons.specs.Dense.{Dense, cell_at, first_row_fault, given_at, given_before, given_by, given_in, givens, most_constraints, right_at, row_at, row_fault_at, side_at, side_if, sides, type_at, type_faults}
+use Rattle.nf_cons.specs.Dense.{Dense, cell_at, first_row_fault, given_at, given_before, given_by, given_in, givens, most_constraints, right_at, row_at, row_fault_at, side_at, side_if, sides, type_at}
 use Rattle.nf_cons.specs.Making.{IsPlaced, are_apart, same_place}
-use Rattle.nf_cons.specs.Places.{fault_if, first_of, in_row}
+use Rattle.nf_cons.specs.Places.{fault_if, in_row}
 use Rattle.nf_cons.specs.Terms.{Given, coefficient_of}
 use Rattle.nf_cons.specs.Types.{is_side, side_kind}
 use Rattle.nf_cons.proofs.DenseFacts.{before-all, before-more, before-none, sides-more, typed-clear}

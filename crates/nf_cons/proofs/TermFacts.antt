@@ -1,5 +1,5 @@
 -- Facts on the values that rows give variables.
-use Rattle.std.proofs.Common.{◌≡◌, ◌<◌, ◌++◌, ◌+◌, ◌⊎◌, ℕ, zero, suc, Bool, true, false, List, [], ◌∷◌, Option, Some, None, length, map, nat_eq, get_or, refl, sym, ap, ◌∙◌, inl, inr, arith}
+use Rattle.std.proofs.Common.{◌≡◌, ◌<◌, ◌++◌, ℕ, zero, suc, false, List, [], ◌∷◌, Option, Some, None, length, get_or, refl, arith}
 use Rattle.std.proofs.lemmas.List.{append-nil}
 use Rattle.std.proofs.lemmas.Grind.{flat_map-append}
 use Rattle.std.specs.List.{fold}
@@ -9,7 +9,7 @@ use Rattle.nf_cons.specs.declared.places.PlacedFault.{PlacedFault}
 use Rattle.nf_cons.specs.declared.types.RowType.{RowType}
 use Rattle.nf_cons.specs.declared.types.RowType.TheVariants.{Le, Ge, Eq, Cost, Lower, Upper}
 use Rattle.nf_cons.specs.Places.{IsFaultOf, first_of}
-use Rattle.nf_cons.specs.Terms.{Gift, Given, TermLists, coefficient_of, gift_of, gift_to, is_given, lists_of, no_lists, term_faults, with_given}
+use Rattle.nf_cons.specs.Terms.{Gift, Given, TermLists, coefficient_of, gift_of, gift_to, is_given, lists_of, term_faults, with_given}
 use Rattle.nf_cons.specs.Dense.{cell_faults, cell_term}
 use Rattle.nf_cons.proofs.FaultFacts.{first-append, left}
 

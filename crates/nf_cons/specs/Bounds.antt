@@ -1,6 +1,6 @@
 -- The cost and bounds of nonarc variables, and where bounds that cross are told.
 -- The columns of nonarc variables and the fault CrossedBounds of CONDATA rest on these words.
-use Rattle.std.specs.Prelude.{◌+◌, ◌-◌, ℕ, pos, Option, Some, None, List, length, get_or, if◌then◌else◌, unwrap_or}
+use Rattle.std.specs.Prelude.{◌+◌, ℕ, pos, Option, Some, None, List, length, get_or, if◌then◌else◌, unwrap_or}
 use Rattle.std.specs.Bool.{nat_lt}
 use Rattle.nf_frac.specs.declared.amount.Amount.{Amount}
 use Rattle.nf_cells.specs.declared.values.Bound.{Bound}

@@ -1,6 +1,6 @@
 -- Dense CONDATA: the variables of its header, what its rows say, and its faults in the order in which they are looked for.
 -- The promise of `dense` rests on it.
-use Rattle.std.specs.Prelude.{◌++◌, ◌&&◌, ◌+◌, ℕ, pos, Bool, true, List, [], ◌∷◌, Option, Some, None, length, map, take, get_or, codes, decimal}
+use Rattle.std.specs.Prelude.{◌++◌, ◌&&◌, ◌+◌, ℕ, pos, true, List, [], ◌∷◌, Option, Some, None, length, map, take, get_or, codes, decimal}
 use Rattle.std.specs.Bool.{nat_le, nat_lt}
 use Rattle.nf_frac.specs.declared.amount.Amount.{Amount}
 use Rattle.nf_table.specs.Grid.{Cells}
@@ -18,9 +18,7 @@ use Rattle.nf_roles.specs.Roles.{RoleColumns, cell_for}
 use Rattle.nf_network.specs.Arcs.{said}
 use Rattle.nf_network.specs.Excess.{joined_below}
 use Rattle.nf_network.specs.Faults.{is_bad}
-use Rattle.nf_cons.specs.declared.places.Place.{Place}
 use Rattle.nf_cons.specs.declared.places.Place.TheVariants.{OfRole, Column}
-use Rattle.nf_cons.specs.declared.places.Home.{Home}
 use Rattle.nf_cons.specs.declared.places.PlacedFault.{PlacedFault}
 use Rattle.nf_cons.specs.declared.places.RowFault.{RowFault}
 use Rattle.nf_cons.specs.declared.taken.SideRow.{SideRow}

@@ -1,6 +1,6 @@
 -- The network with the constraints of dense CONDATA, or its first fault: what `dense` promises.
 -- What a program and its data sets stand for rests on it.
-use Rattle.std.specs.Prelude.{◌≡◌, ℕ, List, Option, Some, None, Result, Ok, Err, length, map}
+use Rattle.std.specs.Prelude.{◌≡◌, List, Option, Some, None, Result, Ok, Err, length, map}
 use Rattle.nf_table.specs.Grid.{Cells, Grid}
 use Rattle.nf_cells.specs.Names.{Name}
 use Rattle.nf_program.specs.declared.program.ProcOptions.{ProcOptions}

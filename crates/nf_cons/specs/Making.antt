@@ -1,9 +1,9 @@
 -- What was read of CONDATA can be added to a network: its numbers are in range, and no coefficient is given twice.
 -- The step from what is read to the problem rests on it.
-use Rattle.std.specs.Prelude.{◌≡◌, ◌≤◌, ◌<◌, ◌^◌, ◌+◌, ◌&&◌, ◌||◌, ℕ, zero, suc, Bool, true, false, not, List, [], ◌∷◌, length, nat_eq}
+use Rattle.std.specs.Prelude.{◌≡◌, ◌≤◌, ◌<◌, ◌^◌, ◌+◌, ◌&&◌, ℕ, zero, suc, Bool, true, false, not, List, [], ◌∷◌, length, nat_eq}
 use Rattle.std.specs.List.{All, list_any}
 use Rattle.nf_cells.specs.Names.{Name}
-use Rattle.nf_model.specs.Program.{Column, Entry, LinearProgram}
+use Rattle.nf_model.specs.Program.{Column}
 use Rattle.nf_labels.specs.Labels.{AreNumbered}
 use Rattle.nf_network.specs.Faults.{are_crossed}
 use Rattle.nf_network.specs.Network.{Network}

@@ -1,6 +1,6 @@
 -- How the passes over CONDATA stand after some columns, rows or lines.
 -- The promises of `read_header`, `read_dense` and `read_sparse` rest on it.
-use Rattle.std.specs.Prelude.{◌≡◌, ◌≤◌, ◌<◌, ◌+◌, ◌^◌, ◌++◌, ℕ, List, [], ◌∷◌, Option, None, Some, length, map}
+use Rattle.std.specs.Prelude.{◌≡◌, ◌≤◌, ◌+◌, ℕ, List, ◌∷◌, Option, length, map}
 use Rattle.std.specs.List.{fold}
 use Rattle.nf_table.specs.Grid.{Grid}
 use Rattle.nf_cells.specs.Cells.{is_blank}
@@ -11,11 +11,11 @@ use Rattle.nf_cons.specs.declared.places.PlacedFault.{PlacedFault}
 use Rattle.nf_cons.specs.declared.taken.SideRow.{SideRow}
 use Rattle.nf_cons.specs.declared.types.RowType.{RowType}
 use Rattle.nf_cons.specs.ArcList.{AreArcs}
-use Rattle.nf_cons.specs.Places.{fault_if, first_of}
+use Rattle.nf_cons.specs.Places.{fault_if}
 use Rattle.nf_cons.specs.Variables.{Mention, homes, nonarcs, number_in}
-use Rattle.nf_cons.specs.Naming.{IsSound, VariableList, faults_now, number_now, with_mention}
+use Rattle.nf_cons.specs.Naming.{IsSound, VariableList, faults_now}
 use Rattle.nf_cons.specs.Terms.{Given, TermLists, lists_of, with_given}
-use Rattle.nf_cons.specs.Dense.{Dense, dense_row, given_before, givens, most_coefficients, names, sides, type_at}
+use Rattle.nf_cons.specs.Dense.{Dense, dense_row, given_before, givens, most_coefficients, names, sides}
 
 -- ---- the header
 -- The faults of a column, by the variables so far and the names of the columns before it.

@@ -1,6 +1,6 @@
 -- The values that rows of CONDATA give variables: coefficients of constraints, and costs and bounds of nonarc variables.
 -- The entries and columns of the constrained problem, and the faults of values, rest on these words.
-use Rattle.std.specs.Prelude.{◌++◌, ◌&&◌, ℕ, Bool, true, false, not, List, [], ◌∷◌, Option, Some, None, if◌then◌else◌, nat_eq, map}
+use Rattle.std.specs.Prelude.{◌++◌, ◌&&◌, ℕ, Bool, true, false, not, List, [], ◌∷◌, Option, if◌then◌else◌, nat_eq, map}
 use Rattle.std.specs.List.{flat_map}
 use Rattle.std.specs.Map.{lookup}
 use Rattle.std.specs.Option.{is_some}

@@ -1,6 +1,6 @@
 -- The types of the rows of CONDATA: what a cell says of them, and which are rows of the problem.
 -- The constraints of both forms of CONDATA, and the faults of their types, rest on these words.
-use Rattle.std.specs.Prelude.{Bool, true, false, nat_eq, ℕ, List, [], ◌∷◌, Option, Some, None, slice_get}
+use Rattle.std.specs.Prelude.{Bool, nat_eq, ℕ, List, [], ◌∷◌, Option, Some, None, slice_get}
 use Rattle.std.specs.Option.{option_and_then, is_some}
 use Rattle.nf_words.specs.Lists.{type_list}
 use Rattle.nf_words.specs.Words.{find_word}

@@ -1,4 +1,4 @@
-use Rattle.std.proofs.Common.{◌≡◌, ◌<◌, ◌≤◌, ◌+◌, ◌-◌, ◌∙◌, [], length, take, get_or, ap, sym, arith}
+use Rattle.std.proofs.Common.{◌≡◌, ◌<◌, ◌+◌, ◌-◌, ◌∙◌, [], length, take, get_or, ap, arith}
 use Rattle.std.proofs.lemmas.List.{length-take-le, take_more}
 use Rattle.nf_cons.proofs.ArcFacts.{arcs-next, arcs-none}
 use Rattle.nf_cons.proofs.arcs.arc_names.Goals as goal

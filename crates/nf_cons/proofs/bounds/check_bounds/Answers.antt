@@ -1,4 +1,4 @@
-use Rattle.std.proofs.Common.{◌≡◌, ◌<◌, ◌≤◌, ◌+◌, ◌∙◌, true, false, Some, length, get_or, sym, ap, arith}
+use Rattle.std.proofs.Common.{◌≡◌, ◌<◌, ◌+◌, ◌∙◌, true, false, Some, length, sym, ap, arith}
 use Rattle.nf_roles.proofs.Lists.{found, none-more, none-yet}
 use Rattle.nf_network.specs.Faults.{are_crossed}
 use Rattle.nf_cons.specs.Bounds.{bound_fault_at, figures_of}

@@ -1,4 +1,3 @@
-use Rattle.std.proofs.Common.{◌≡◌, ◌∙◌, None, sym, ap}
 use Rattle.nf_cons.specs.Variables.{arcs_of}
 use Rattle.nf_cons.proofs.DenseWhole.{table-is, whole}
 use Rattle.nf_cons.proofs.dense_data.read_dense.Goals as goal

@@ -1,9 +1,7 @@
-use Rattle.std.proofs.Common.{◌≡◌, ◌<◌, ◌≤◌, ◌+◌, ◌∙◌, refl, length, map, sym, ap, arith}
+use Rattle.std.proofs.Common.{◌≡◌, ◌+◌, ◌∙◌, refl, length, map, ap, arith}
 use Rattle.nf_roles.proofs.Lists.{none-yet}
 use Rattle.nf_network.proofs.PassFacts.{map-length}
 use Rattle.nf_cons.specs.Dense.{Dense, dense_row, row_fault_at}
-use Rattle.nf_cons.specs.Passing.{dense_now}
-use Rattle.nf_cons.specs.Places.{in_row}
 use Rattle.nf_cons.specs.Types.{default_type}
 use Rattle.nf_cons.proofs.DenseFacts.{after-none, dense-is}
 use Rattle.nf_cons.proofs.FaultFacts.{row-found, rows-more}

@@ -1,14 +1,11 @@
-use Rattle.std.proofs.Common.{◌≡◌, ◌<◌, ◌≤◌, ◌+◌, ◌++◌, ◌∷◌, [], ◌∙◌, refl, length, map, take, get_or, sym, ap, arith}
+use Rattle.std.proofs.Common.{◌≡◌, ◌<◌, ◌∙◌, length, take, get_or, sym, ap, arith}
 use Rattle.std.proofs.lemmas.List.{take_all}
-use Rattle.nf_cells.specs.Cells.{value_of}
 use Rattle.nf_roles.proofs.Lists.{none-yet}
 use Rattle.nf_network.proofs.PassFacts.{map-length}
-use Rattle.nf_cons.specs.declared.places.Place.TheVariants.{Column}
-use Rattle.nf_cons.specs.Dense.{column_fault_at, mention_at, mentions, no_mention}
-use Rattle.nf_cons.specs.Places.{in_row}
-use Rattle.nf_cons.specs.Variables.{Mention, arcs_of}
-use Rattle.nf_cons.proofs.FaultFacts.{or-second, row-found, rows-more}
-use Rattle.nf_cons.proofs.HeaderFacts.{column-at, mention-is, mentions-more, named-none, next-named, numbers-more, seen-more}
+use Rattle.nf_cons.specs.Dense.{column_fault_at, mention_at, mentions}
+use Rattle.nf_cons.specs.Variables.{arcs_of}
+use Rattle.nf_cons.proofs.FaultFacts.{row-found, rows-more}
+use Rattle.nf_cons.proofs.HeaderFacts.{column-at, mention-is, named-none, next-named, numbers-more, seen-more}
 use Rattle.nf_cons.proofs.header.read_header.Goals as goal
 
 pub loop-i-init : goal.loop-i-init

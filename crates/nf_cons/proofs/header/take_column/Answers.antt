@@ -1,4 +1,4 @@
-use Rattle.std.proofs.Common.{◌≡◌, ◌∙◌, ◌<◌, ◌++◌, ◌∷◌, [], false, length, nat_lt, sym, ap}
+use Rattle.std.proofs.Common.{◌≡◌, ◌∙◌, false, nat_lt, sym, ap}
 use Rattle.nf_cells.specs.Cells.{is_blank, value_of}
 use Rattle.nf_cells.specs.Names.{has_name, with_name}
 use Rattle.nf_cons.specs.declared.places.Place.TheVariants.{Column}

@@ -1,8 +1,8 @@
-use Rattle.std.proofs.Common.{◌≡◌, ◌<◌, ◌≤◌, ◌+◌, ◌-◌, ◌∙◌, refl, length, take, get_or, pos, sym, ap, arith}
+use Rattle.std.proofs.Common.{◌≡◌, ◌<◌, ◌+◌, ◌-◌, ◌∙◌, refl, length, take, get_or, pos, ap, arith}
 use Rattle.std.proofs.lemmas.List.{take_all}
 use Rattle.std.proofs.lemmas.List.Elements.{All-get_or}
 use Rattle.nf_cons.specs.declared.taken.Coefficient.{Coefficient}
-use Rattle.nf_cons.specs.Constrained.{column_of, with_coefficients}
+use Rattle.nf_cons.specs.Constrained.{column_of}
 use Rattle.nf_cons.specs.Making.{IsPlaced}
 use Rattle.nf_cons.proofs.EntryFacts.{coef-columns, coef-more, coef-new, coef-nodes, coef-rows, column-inside}
 use Rattle.nf_cons.proofs.making.add_coefficients.Goals as goal

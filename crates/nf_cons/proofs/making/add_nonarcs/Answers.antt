@@ -1,4 +1,4 @@
-use Rattle.std.proofs.Common.{◌≡◌, ◌<◌, ◌≤◌, ◌+◌, ◌-◌, ◌++◌, ◌∷◌, ◌∙◌, [], false, None, refl, length, get_or, sym, ap, arith}
+use Rattle.std.proofs.Common.{◌≡◌, ◌<◌, ◌+◌, ◌-◌, ◌∷◌, ◌∙◌, [], false, None, length, sym, ap, arith}
 use Rattle.std.proofs.lemmas.List.{length-append}
 use Rattle.nf_prob.specs.Building.{new_column}
 use Rattle.nf_network.specs.Excess.{joined_below}
@@ -6,8 +6,7 @@ use Rattle.nf_network.specs.Faults.{are_crossed}
 use Rattle.nf_network.proofs.Lists.{joined-more, joined-none, joined-ones}
 use Rattle.nf_network.proofs.MakingFacts.{in-order}
 use Rattle.nf_cons.specs.Bounds.{defaults_of, figures_of}
-use Rattle.nf_cons.specs.Constrained.{nonarc_column, nonarc_column_at, with_columns}
-use Rattle.nf_cons.specs.Making.{before}
+use Rattle.nf_cons.specs.Constrained.{nonarc_column, nonarc_column_at}
 use Rattle.nf_cons.proofs.MakingFacts.{before-more, columns-next, columns-of-none}
 use Rattle.nf_cons.proofs.making.add_nonarcs.Goals as goal
 

@@ -1,8 +1,7 @@
-use Rattle.std.proofs.Common.{◌≡◌, ◌<◌, ◌≤◌, ◌+◌, ◌-◌, ◌++◌, ◌∷◌, ◌∙◌, [], refl, length, map, take, sym, ap, arith}
+use Rattle.std.proofs.Common.{◌≡◌, ◌<◌, ◌+◌, ◌-◌, ◌∷◌, ◌∙◌, [], refl, length, map, take, ap, arith}
 use Rattle.std.proofs.lemmas.List.{length-append, length-take-le, take_all}
 use Rattle.nf_network.proofs.PassFacts.{map-length}
-use Rattle.nf_cons.specs.Constrained.{side_row, with_rows}
-use Rattle.nf_cons.specs.Making.{before}
+use Rattle.nf_cons.specs.Constrained.{side_row}
 use Rattle.nf_cons.proofs.MakingFacts.{before-more, map-more, rows-next, rows-none}
 use Rattle.nf_cons.proofs.making.add_sides.Goals as goal
 

@@ -1,4 +1,4 @@
-use Rattle.std.proofs.Common.{◌≡◌, ◌<◌, ◌≤◌, ◌+◌, ◌++◌, ◌∙◌, [], length, take, sym, ap, arith}
+use Rattle.std.proofs.Common.{◌+◌, ◌∙◌, [], length, take, ap, arith}
 use Rattle.std.proofs.lemmas.List.{length-append, length-take-le, take_all}
 use Rattle.nf_cons.proofs.MakingFacts.{columns-more, columns-none, take-more}
 use Rattle.nf_cons.proofs.making.label_nonarcs.Goals as goal

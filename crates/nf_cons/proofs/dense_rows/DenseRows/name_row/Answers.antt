@@ -1,4 +1,4 @@
-use Rattle.std.proofs.Common.{◌≡◌, ◌<◌, ◌≤◌, ◌∙◌, true, false, length, nat_lt, refl, sym, ap, arith}
+use Rattle.std.proofs.Common.{◌≡◌, ◌∙◌, true, false, nat_lt, refl, sym, arith}
 use Rattle.nf_cells.specs.Names.{has_name}
 use Rattle.nf_cells.specs.Values.{cell_now}
 use Rattle.nf_cons.specs.Dense.{row_name}

@@ -1,4 +1,4 @@
-use Rattle.std.proofs.Common.{◌≡◌, ◌∙◌, get_or, sym}
+use Rattle.std.proofs.Common.{◌≡◌, ◌∙◌, get_or}
 use Rattle.nf_cons.proofs.TermFacts.{cell-term-fault, get-same}
 use Rattle.nf_cons.proofs.dense_rows.DenseRows.take_cell.Goals as goal
 

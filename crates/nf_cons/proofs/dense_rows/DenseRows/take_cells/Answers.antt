@@ -1,9 +1,9 @@
-use Rattle.std.proofs.Common.{◌≡◌, ◌≤◌, ◌<◌, ◌+◌, ◌∙◌, refl, length, get_or, sym, ap, arith}
+use Rattle.std.proofs.Common.{◌≡◌, ◌<◌, ◌+◌, ◌∙◌, refl, length, get_or, ap, arith}
 use Rattle.std.proofs.lemmas.List.{length-append}
 use Rattle.nf_cells.specs.Values.{bound_in}
 use Rattle.nf_roles.proofs.Lists.{none-more, none-yet}
-use Rattle.nf_cons.specs.Dense.{cell_at, cell_fault_at, given_at, given_before, given_by}
-use Rattle.nf_cons.specs.Passing.{dense_now, state_before}
+use Rattle.nf_cons.specs.Dense.{cell_at, cell_fault_at, given_at, given_before}
+use Rattle.nf_cons.specs.Passing.{dense_now}
 use Rattle.nf_cons.specs.Terms.{lists_of}
 use Rattle.nf_cons.proofs.DenseFacts.{before-all, before-more, before-none, cell-is, few-more, fault-is, given-is, state-more, state-none}
 use Rattle.nf_cons.proofs.FaultFacts.{cell-found}

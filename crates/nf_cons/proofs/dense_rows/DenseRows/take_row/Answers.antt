@@ -1,6 +1,6 @@
-use Rattle.std.proofs.Common.{◌≡◌, ◌≤◌, ◌<◌, ◌+◌, ◌∙◌, None, refl, length, get_or, sym, ap, arith}
+use Rattle.std.proofs.Common.{◌≡◌, ◌+◌, ◌∙◌, None, sym, ap}
 use Rattle.nf_cells.specs.Values.{amount_in, cell_now, name_in}
-use Rattle.nf_cons.specs.Dense.{name_faults, names, right_faults, row_at, sides, type_at, type_faults}
+use Rattle.nf_cons.specs.Dense.{name_faults, names, row_at, type_at}
 use Rattle.nf_cons.specs.Passing.{dense_now}
 use Rattle.nf_cons.specs.Places.{first_of}
 use Rattle.nf_cons.specs.Types.{type_in}

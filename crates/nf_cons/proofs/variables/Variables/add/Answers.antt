@@ -1,4 +1,4 @@
-use Rattle.std.proofs.Common.{◌≡◌, ◌≤◌, ◌<◌, ◌∙◌, ◌+◌, length, sym, ap, arith, Fits, w64}
+use Rattle.std.proofs.Common.{◌≡◌, ◌≤◌, ◌<◌, length, arith}
 use Rattle.nf_cells.specs.Names.{with_name}
 use Rattle.nf_cons.specs.Naming.{VariableList}
 use Rattle.nf_cons.specs.Variables.{most_nonarcs}
