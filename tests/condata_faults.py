@@ -129,6 +129,24 @@ CASES = [
 ]
 
 
+PAIR = "_FROM_,_TO_,_NAME_,_COST_|a,b,p,1|a,b,q,3"
+PAIR_NODES = "_NODE_,_SUPDEM_|a,5|b,-5|"
+NODES = " nodedata=nodes;"
+ROLES = " tailnode from; headnode to; cost cost; capacity capac; lo lo;"
+OIL = "from,to,cost,capac,lo|middle east,refinery 1,63.5,95,20|refinery 1,gas,200,.,."
+OIL_NODES = "_NODE_,_SUPDEM_|middle east,100|gas,-30|"
+HEADER = "_ROW_,_COLUMN_,_COEF_,_TYPE_,_RHS_|"
+
+# worked problems of the rules, line by line: name, words behind PROC, ARCDATA, NODEDATA, lines of CONDATA, cost and pivots
+SOLVED = [
+    ("a constraint of the default type", ";", "_FROM_,_TO_,_COST_|a,b,-1|b,a,0", None, "r,a_b,1,,4", ("-4", 1, 1)),
+    ("a constraint of a line", NODES, PAIR, PAIR_NODES, "r,p,3,LE,7", ("31/3", 1, 1)),
+    ("a right side in COLUMN, before its constraint has a type", NODES, PAIR, PAIR_NODES, "r,_RHS_,7,,|r,p,3,<=,", ("31/3", 1, 1)),
+    ("a constraint that nothing has to meet", NODES + ROLES, OIL, OIL_NODES, "r,middle east_refinery 1,1,>=,25", ("7905", 3, 0)),
+    ("a nonarc variable with a cost", NODES, PAIR, PAIR_NODES, "r,p,3,LE,7|c,z,0.1,COST,|r,z,-1,,", ("29/5", 1, 2)),
+]
+
+
 def main():
     t = Cases(arguments("The faults of CONDATA.").parse_args().netflow)
     for name, program, arcs, cons, (status, listing) in CASES:
@@ -140,6 +158,10 @@ def main():
         t.expect(name, got, status, listing)
         # for a check the same, before the certificate is looked at
         t.expect("check of " + name, t.run_on(sets, ["check"], program.replace("condata=", "certdata=k condata=").encode()), status, listing)
+    for name, words, arcs, nodes, cons, (cost, first, second) in SOLVED:
+        sets = {"arcs": lines(arcs + "|", "|"), "nodes": lines(nodes, "|"), "cons": lines(HEADER + cons + "|", "|")}
+        listing = "OPTIMAL|TOTAL COST %s|STAGE 1 PIVOTS %d|STAGE 2 PIVOTS %d|" % (cost, first, second)
+        t.expect(name, t.run_on(sets, ["run"], (SPARSE[:-1] + words + " run;").encode()), 0, listing.replace("|", "\n"))
     return t.end()
 
 
