@@ -9,10 +9,15 @@ problem is whole: so what is timed is the reading of the tables, the roles, ever
 problem and its labels. Beside it stands the reading of the tables alone: the same data with a cell too many in the last row
 of NODEDATA, which is told before any role is looked at. The best of five runs counts, in processor seconds. Memory is the
 most that was resident.
+
+Where there is a C compiler, bench/network.c does the same work on the same ARCDATA, with the same layout of memory and
+without a proof: it tells what of the time is the machine's.
 """
 import argparse
 import os
 import random
+import shutil
+import subprocess
 import sys
 import tempfile
 
@@ -37,8 +42,8 @@ def make_network(folder, arcs, seed=1):
     return sum(os.path.getsize(os.path.join(folder, name)) for name in ("arcs.csv", "nodes.csv"))
 
 
-def run(program, folder):
-    """One run: processor seconds, megabytes, status, listing."""
+def run(program, word, folder):
+    """One run of a program with one word: processor seconds, megabytes, status, listing."""
     pipe, feed = os.pipe()
     os.write(feed, PROGRAM)
     os.close(feed)
@@ -48,7 +53,7 @@ def run(program, folder):
             os.chdir(folder)
             os.dup2(pipe, 0)
             os.dup2(out.fileno(), 1)
-            os.execv(program, [program, "run"])
+            os.execv(program, [program, word])
         os.close(pipe)
         _, status, usage = os.wait4(child, 0)
         out.seek(0)
@@ -57,11 +62,49 @@ def run(program, folder):
 
 def best_of_runs(program, folder, due):
     """The least processor seconds and the most megabytes of the runs, each of which refuses the data with this line."""
-    runs = [run(program, folder) for _ in range(RUNS)]
+    runs = [run(program, "run", folder) for _ in range(RUNS)]
     for _, _, status, listing in runs:
         if (status, listing) != (4, due):
             sys.exit("answered %d %r, due is 4 %r" % (status, listing, due))
     return min(r[0] for r in runs), max(r[1] for r in runs)
+
+
+def compiled(folder):
+    """The same work in C, compiled into a folder, or None where there is no compiler."""
+    if shutil.which("cc") is None:
+        return None
+    plain = os.path.join(folder, "network")
+    source = os.path.join(os.path.dirname(os.path.abspath(__file__)), "network.c")
+    subprocess.run(["cc", "-O2", "-o", plain, source], check=True)
+    return plain
+
+
+def best_in_c(plain, word, folder):
+    """The least processor seconds of the same work in C."""
+    runs = [run(plain, word, folder) for _ in range(RUNS)]
+    if any(status != 0 for _, _, status, _ in runs):
+        sys.exit("bench/network.c ended with another status than 0")
+    return min(r[0] for r in runs)
+
+
+def measure(program, plain, arcs, before):
+    """Prints the figures of a network of so many arcs, and gives its seconds."""
+    nodes = arcs // 10
+    with tempfile.TemporaryDirectory() as folder:
+        size = make_network(folder, arcs)
+        seconds, memory = best_of_runs(program, folder, DUE)
+        if plain is not None:
+            in_c, tables_in_c = best_in_c(plain, "whole", folder), best_in_c(plain, "tables", folder)
+        with open(os.path.join(folder, "nodes.csv"), "a", encoding="utf-8") as f:
+            f.write("one cell alone\n")
+        tables, _ = best_of_runs(program, folder, DUE_OF_TABLES % (nodes + 1))
+    growth = "" if before is None else "   twice the bytes take %.2f times as long" % (seconds / before)
+    print("%6d arcs, %5d nodes, %8d bytes: %.3f s, %5.1f MB/s, %5.0f MB; the tables alone %.3f s, so %.1f times that%s"
+          % (arcs, nodes, size, seconds, size / seconds / 1e6, memory, tables, seconds / tables, growth))
+    if plain is not None:
+        print("       in C: %.3f s, the table alone %.3f s, so %.1f times that; here %.2f times the whole in C"
+              % (in_c, tables_in_c, in_c / tables_in_c, seconds / in_c))
+    return seconds
 
 
 def main():
@@ -69,18 +112,10 @@ def main():
     parser.add_argument("--netflow", required=True, help="the built program")
     program = os.path.abspath(parser.parse_args().netflow)
     before = None
-    for arcs in (50000, 100000, 200000):
-        nodes = arcs // 10
-        with tempfile.TemporaryDirectory() as folder:
-            size = make_network(folder, arcs)
-            seconds, memory = best_of_runs(program, folder, DUE)
-            with open(os.path.join(folder, "nodes.csv"), "a", encoding="utf-8") as f:
-                f.write("one cell alone\n")
-            tables, _ = best_of_runs(program, folder, DUE_OF_TABLES % (nodes + 1))
-        growth = "" if before is None else "   twice the bytes take %.2f times as long" % (seconds / before)
-        print("%6d arcs, %5d nodes, %8d bytes: %.3f s, %5.1f MB/s, %5.0f MB; the tables alone %.3f s, so %.1f times that%s"
-              % (arcs, nodes, size, seconds, size / seconds / 1e6, memory, tables, seconds / tables, growth))
-        before = seconds
+    with tempfile.TemporaryDirectory() as folder:
+        plain = compiled(folder)
+        for arcs in (50000, 100000, 200000):
+            before = measure(program, plain, arcs, before)
     return 0
 
 

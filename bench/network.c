@@ -1,0 +1,250 @@
+/* What bench/network.py times, in plain C: with the same layout of memory as the program's, without a proof and without
+ * most checks. It tells what such a problem takes of the machine itself.
+ *
+ *     network whole|tables
+ *
+ * It reads arcs.csv in the folder in which it is started, as bench/network.py writes it: seven columns, no quotes. It cuts
+ * the text into cells and, unless these alone are asked for, numbers the nodes in order of first appearance, sees that no
+ * arc repeats another, reads each arc's numbers, and makes the labels, the columns and the lists by row. */
+#include <stdint.h>
+#include <stdio.h>
+#include <stdlib.h>
+#include <string.h>
+
+enum { COLUMNS = 7, MOST_NODES = 1 << 15, NODE_SLOTS = 1 << 16, ARC_SLOTS = 1 << 19, NONE = -1 };
+
+typedef struct { __int128 numerator; unsigned __int128 denominator; } Frac;
+typedef struct { Frac value; uint32_t number; } Entry;
+typedef struct { const char *bytes; size_t length; } Cell;
+typedef struct { char bytes[24]; size_t length; } Name;
+typedef struct { size_t tail, head; Name name; } Arc;
+typedef struct { int64_t cost, lower, upper; } Figures;
+typedef struct {
+    Frac cost, lower, upper;
+    uint32_t tail, head;
+    size_t is_bounded;
+    Entry entries[2];
+    size_t length, is_inline;
+} Column;
+
+static char *text;
+static size_t *ends;
+static size_t rows;
+static Name *nodes;
+static int32_t *node_slots, *arc_slots;
+static size_t node_count, arc_count;
+static Arc *arcs;
+static Figures *figures;
+static Column *columns;
+
+static void *memory(size_t bytes)
+{
+    void *taken = malloc(bytes);
+    if (!taken)
+        exit(10);
+    return taken;
+}
+
+static void read_table(void)
+{
+    FILE *file = fopen("arcs.csv", "rb");
+    if (!file || fseek(file, 0, SEEK_END))
+        exit(1);
+    size_t size = (size_t)ftell(file), cells = 0, length = 0;
+    rewind(file);
+    char *bytes = memory(size);
+    if (fread(bytes, 1, size, file) != size)
+        exit(1);
+    fclose(file);
+    for (size_t i = 0; i < size; i++)
+        cells += bytes[i] == ',' || bytes[i] == '\n';
+    text = memory(size);
+    ends = memory(cells * sizeof *ends);
+    rows = cells / COLUMNS - 1;
+    cells = 0;
+    for (size_t i = 0; i < size; i++) {
+        if (bytes[i] == ',' || bytes[i] == '\n')
+            ends[cells++] = length;
+        else
+            text[length++] = bytes[i];
+    }
+    free(bytes);
+}
+
+static Cell cell(size_t row, size_t column)
+{
+    size_t i = row * COLUMNS + column, start = ends[i - 1], end = ends[i];
+    while (start < end && text[start] == ' ')
+        start++;
+    while (start < end && text[end - 1] == ' ')
+        end--;
+    return (Cell){text + start, end - start};
+}
+
+static Cell name_cell(size_t row, size_t column)
+{
+    Cell name = cell(row, column);
+    if (!name.length || name.length > sizeof nodes->bytes)
+        exit(2);
+    for (size_t i = 0; i < name.length; i++) {
+        unsigned byte = (unsigned char)name.bytes[i];
+        if (!(byte - '0' < 10 || (byte | 32) - 'a' < 26 || byte == ' ' || byte == '_' || byte == '.' || byte == '-'))
+            exit(2);
+    }
+    return name;
+}
+
+/* Thousandths of a whole amount. */
+static int64_t amount_cell(size_t row, size_t column)
+{
+    Cell amount = cell(row, column);
+    int64_t value = 0;
+    size_t sign = amount.length && amount.bytes[0] == '-';
+    for (size_t i = sign; i < amount.length; i++) {
+        if ((unsigned)(amount.bytes[i] - '0') > 9)
+            exit(3);
+        value = value * 10 + (amount.bytes[i] - '0');
+    }
+    return (sign ? -value : value) * 1000;
+}
+
+static uint64_t folded(uint64_t a, uint64_t b)
+{
+    unsigned __int128 product = (unsigned __int128)a * b;
+    return (uint64_t)product ^ (uint64_t)(product >> 64);
+}
+
+static uint64_t hash(Cell name, uint64_t seed)
+{
+    uint64_t front = 0, back = 0;
+    size_t few = name.length < 8 ? name.length : 8;
+    memcpy(&front, name.bytes, few);
+    memcpy(&back, name.bytes + name.length - few, few);
+    return folded(front ^ seed ^ name.length, back ^ 0x9e3779b97f4a7c15u);
+}
+
+static int is_same(const Name *name, Cell other)
+{
+    return name->length == other.length && !memcmp(name->bytes, other.bytes, other.length);
+}
+
+static size_t number_of(Cell name)
+{
+    size_t slot = hash(name, 7) & (NODE_SLOTS - 1);
+    for (; node_slots[slot] != NONE; slot = (slot + 1) & (NODE_SLOTS - 1))
+        if (is_same(&nodes[node_slots[slot]], name))
+            return (size_t)node_slots[slot];
+    if (node_count == MOST_NODES)
+        exit(4);
+    node_slots[slot] = (int32_t)node_count;
+    memcpy(nodes[node_count].bytes, name.bytes, name.length);
+    nodes[node_count].length = name.length;
+    return node_count++;
+}
+
+static void add_arc(size_t tail, size_t head, Cell name)
+{
+    size_t slot = folded(hash(name, tail), head + 1) & (ARC_SLOTS - 1);
+    for (; arc_slots[slot] != NONE; slot = (slot + 1) & (ARC_SLOTS - 1)) {
+        const Arc *other = &arcs[arc_slots[slot]];
+        if (other->tail == tail && other->head == head && is_same(&other->name, name))
+            exit(5);
+    }
+    arc_slots[slot] = (int32_t)arc_count;
+    Arc *arc = &arcs[arc_count++];
+    arc->tail = tail;
+    arc->head = head;
+    memcpy(arc->name.bytes, name.bytes, name.length);
+    arc->name.length = name.length;
+}
+
+static void read_arcs(void)
+{
+    nodes = memory(MOST_NODES * sizeof *nodes);
+    node_slots = memset(memory(NODE_SLOTS * sizeof *node_slots), 0xff, NODE_SLOTS * sizeof *node_slots);
+    arcs = memory(rows * sizeof *arcs);
+    arc_slots = memset(memory(ARC_SLOTS * sizeof *arc_slots), 0xff, ARC_SLOTS * sizeof *arc_slots);
+    figures = memory(rows * sizeof *figures);
+    for (size_t row = 1; row <= rows; row++) {
+        size_t tail = number_of(name_cell(row, 0)), head = number_of(name_cell(row, 1));
+        add_arc(tail, head, name_cell(row, 2));
+        Figures *f = &figures[row - 1];
+        *f = (Figures){amount_cell(row, 3), amount_cell(row, 4), amount_cell(row, 5)};
+        if (f->upper < f->lower)
+            exit(6);
+    }
+}
+
+static size_t make_labels(void)
+{
+    char *names = memory(rows * sizeof arcs->name.bytes);
+    size_t *spans = memory(rows * 2 * sizeof *spans), *ids = memory(rows * 2 * sizeof *ids), length = 0;
+    for (size_t j = 0; j < rows; j++) {
+        const Name *name = &arcs[j].name;
+        memcpy(names + length, name->bytes, name->length);
+        spans[2 * j] = length;
+        spans[2 * j + 1] = length += name->length;
+        ids[2 * j] = ids[2 * j + 1] = cell(j + 1, 6).length;
+    }
+    return length;
+}
+
+static Frac whole(int64_t thousandths)
+{
+    return (Frac){thousandths / 1000, 1};
+}
+
+static void make_columns(void)
+{
+    columns = memory(rows * sizeof *columns);
+    for (size_t j = 0; j < rows; j++) {
+        Column *c = &columns[j];
+        c->cost = whole(figures[j].cost);
+        c->lower = whole(figures[j].lower);
+        c->upper = whole(figures[j].upper);
+        c->tail = (uint32_t)arcs[j].tail + 1;
+        c->head = (uint32_t)arcs[j].head + 1;
+        size_t later = c->tail > c->head;
+        c->entries[later] = (Entry){{1, 1}, c->tail};
+        c->entries[!later] = (Entry){{-1, 1}, c->head};
+        c->is_bounded = c->is_inline = 1;
+        c->length = c->tail == c->head ? 0 : 2;
+    }
+    free(arcs);
+    free(arc_slots);
+    free(figures);
+}
+
+static size_t make_lists_by_row(void)
+{
+    size_t *places = calloc(node_count, sizeof *places), place = 0;
+    Entry *lists = memory(rows * 2 * sizeof *lists);
+    for (size_t j = 0; j < rows; j++)
+        for (size_t k = 0; k < columns[j].length; k++)
+            places[columns[j].entries[k].number - 1]++;
+    for (size_t i = 0; i < node_count; i++) {
+        size_t count = places[i];
+        places[i] = place;
+        place += count;
+    }
+    for (size_t j = 0; j < rows; j++)
+        for (size_t k = 0; k < columns[j].length; k++) {
+            const Entry *e = &columns[j].entries[k];
+            lists[places[e->number - 1]++] = (Entry){e->value, (uint32_t)j + 1};
+        }
+    return lists[place / 2].number;
+}
+
+int main(int count, char **words)
+{
+    if (count != 2)
+        return 9;
+    read_table();
+    if (strcmp(words[1], "whole"))
+        return 0;
+    read_arcs();
+    size_t length = make_labels();
+    make_columns();
+    printf("%zu arcs, %zu nodes, %zu bytes of names, an entry of column %zu\n", rows, node_count, length, make_lists_by_row());
+    return 0;
+}
