@@ -5,7 +5,7 @@
 
 Each case runs `netflow run`, and `netflow check` where there is a fault, in a folder of its own. What is expected is typed
 by hand from the order of checks in the documents; no expected value comes from the program. A refusal must be the whole
-listing.
+listing. Behind them, worked problems whose listings are known stand as lines of sparse CONDATA.
 """
 import sys
 
