@@ -136,6 +136,8 @@ ROLES = " tailnode from; headnode to; cost cost; capacity capac; lo lo;"
 OIL = "from,to,cost,capac,lo|middle east,refinery 1,63.5,95,20|refinery 1,gas,200,.,."
 OIL_NODES = "_NODE_,_SUPDEM_|middle east,100|gas,-30|"
 HEADER = "_ROW_,_COLUMN_,_COEF_,_TYPE_,_RHS_|"
+# names on both sides of the most bytes that are kept without memory of their own
+A24, B32, P25 = "a" * 24, "b" * 32, "p" * 25
 
 # worked problems of the rules, line by line: name, words behind PROC, ARCDATA, NODEDATA, lines of CONDATA, cost and pivots
 SOLVED = [
@@ -143,6 +145,7 @@ SOLVED = [
     ("a constraint of a line", NODES, PAIR, PAIR_NODES, "r,p,3,LE,7", ("31/3", 1, 1)),
     ("a right side in COLUMN, before its constraint has a type", NODES, PAIR, PAIR_NODES, "r,_RHS_,7,,|r,p,3,<=,", ("31/3", 1, 1)),
     ("a constraint that nothing has to meet", NODES + ROLES, OIL, OIL_NODES, "r,middle east_refinery 1,1,>=,25", ("7905", 3, 0)),
+    ("names of 24, 25 and 32 bytes", NODES, "_FROM_,_TO_,_NAME_,_COST_|%s,%s,%s,1|%s,%s,q,3" % (A24, B32, P25, A24, B32), "_NODE_,_SUPDEM_|%s,5|%s,-5|" % (A24, B32), "r,%s,3,LE,7" % P25, ("31/3", 1, 1)),
     ("a nonarc variable with a cost", NODES, PAIR, PAIR_NODES, "r,p,3,LE,7|c,z,0.1,COST,|r,z,-1,,", ("29/5", 1, 2)),
 ]
 
