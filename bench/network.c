@@ -1,5 +1,6 @@
-/* What bench/network.py times, in plain C: with the same layout of memory as the program's, without a proof and without
- * most checks. It tells what such a problem takes of the machine itself.
+/* What bench/network.py times, for ARCDATA alone and in plain C: with lists of the same kind as the program's, of nearly
+ * the same size (a column takes 224 bytes, where the program's takes 256), without a proof and without most checks. It
+ * tells what such a problem takes of the machine itself.
  *
  *     network whole|tables
  *

@@ -10,7 +10,7 @@ problem and its labels. Beside it stands the reading of the tables alone: the sa
 of NODEDATA, which is told before any role is looked at. The best of five runs counts, in processor seconds. Memory is the
 most that was resident.
 
-Where there is a C compiler, bench/network.c does the same work on the same ARCDATA, with the same layout of memory and
+Where there is a C compiler, bench/network.c does the same work on the same ARCDATA, with lists of nearly the same size and
 without a proof: it tells what of the time is the machine's.
 """
 import argparse
