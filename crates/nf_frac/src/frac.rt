@@ -108,7 +108,8 @@ impl Frac {
         (self.num, self.den)
     }
 
-    pub(crate) fn from_parts(num: i128, den: u128) -> Frac
+    /// The fraction with these parts, which are in lowest terms: num / den.
+    pub fn from_parts(num: i128, den: u128) -> Frac
         requires { AreParts num den }
         ensures { result ≡ frac_of num den }
     {

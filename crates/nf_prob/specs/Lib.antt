@@ -1,6 +1,7 @@
 pub mod Numbers
 pub mod Building
 pub mod Lists
+pub mod Parts
 pub mod Stored
 pub mod Finished
 pub mod Unfinished

@@ -7,6 +7,7 @@ ghost use Rattle.nf_prob.specs.Building.{AreEnds, HasRoom, IsNew, arcs_with, emp
 ghost use Rattle.nf_prob.specs.Numbers.{IsNumber, ends_of, entry_of};
 
 use crate::lists::row_lists;
+use crate::number::Number;
 use crate::problem::Problem;
 use crate::stored::{Entries, Entry, StoredColumn, StoredRow};
 use nf_frac::Frac;
@@ -123,6 +124,9 @@ impl ProblemBuilder {
     {
         let arcs = counted(self.arcs, tail);
         let entries = node_entries(self.alloc, tail, head)?;
+        let cost = Number::new(self.alloc, cost)?;
+        let lower = Number::new(self.alloc, lower)?;
+        let upper = Number::new_option(self.alloc, upper)?;
         self.columns.push(StoredColumn {
             cost,
             lower,

@@ -8,6 +8,7 @@ mod farkas;
 mod fits;
 mod fracs;
 mod lists;
+mod number;
 mod problem;
 mod ray;
 mod reduced;

@@ -7,6 +7,7 @@ ghost use Rattle.nf_prob.specs.Lists.{AreGathered};
 ghost use Rattle.nf_prob.specs.Numbers.{AreApart, IsNumber, entry_of, head_number, row_list, tail_number};
 ghost use Rattle.nf_prob.specs.Stored.{IsStored, column_of, program_from, row_entry, stored_entry};
 
+use crate::number::Number;
 use crate::stored::{Entry, RowEntry, StoredColumn, StoredRow};
 use nf_frac::Frac;
 use nf_model::RowKind;
@@ -193,21 +194,21 @@ impl Problem {
         requires within { j < length self.now.columns }
         ensures { result ≡ (column self.now j).cost }
     {
-        self.columns[j].cost
+        self.columns[j].cost.get()
     }
 
     pub(crate) fn lower_at(&self, j: usize) -> Frac
         requires within { j < length self.now.columns }
         ensures { lower_of (column self.now j) ≡ Some result }
     {
-        self.columns[j].lower
+        self.columns[j].lower.get()
     }
 
     pub(crate) fn upper_at(&self, j: usize) -> Option<Frac>
         requires within { j < length self.now.columns }
         ensures { upper_of (column self.now j) ≡ result }
     {
-        self.columns[j].upper
+        self.columns[j].upper.as_ref().map(Number::get)
     }
 
     pub(crate) fn entries_at(&self, j: usize) -> &[Entry]

@@ -1,6 +1,7 @@
 // What a problem stores: entries, rows and columns. Numbers count from 1.
 ghost use Rattle.std.specs.Prelude.{◌≡◌};
 
+use crate::number::Number;
 use nf_frac::Frac;
 use nf_model::RowKind;
 use smallvec::SmallVec;
@@ -44,12 +45,13 @@ pub(crate) struct StoredRow {
 // The two entries of an arc need no memory of their own.
 pub(crate) type Entries = SmallVec<Entry, 2>;
 
-// Tail and head are numbers of nodes, and both 0 for a nonarc variable. The entries stand by row number.
+// Tail and head are numbers of nodes, and both 0 for a nonarc variable. The entries stand by row number, and come last,
+// so that no bytes are lost before them.
 #[derive(Drop)]
 pub(crate) struct StoredColumn {
-    pub(crate) cost: Frac,
-    pub(crate) lower: Frac,
-    pub(crate) upper: Option<Frac>,
+    pub(crate) cost: Number,
+    pub(crate) lower: Number,
+    pub(crate) upper: Option<Number>,
     pub(crate) tail: u32,
     pub(crate) head: u32,
     pub(crate) entries: Entries,
