@@ -16,6 +16,8 @@ COSTS = "_FROM_,_TO_,_NAME_,_COST_,_LO_,_CAPAC_"
 GIVEN = "_FROM_,_TO_,_SUPPLY_,_DEMAND_"
 NODES = "_NODE_,_SUPDEM_"
 LONG = "x" * 33
+# An arc between each two of 20 nodes: 400 rows.
+SQUARE = "".join("/n%d,n%d" % (i, j) for i in range(20) for j in range(20))
 
 # The options of PROC, the role statements, ARCDATA, NODEDATA or None, and what stands behind `DATA REFUSED `. `/` ends a
 # line of data.
@@ -81,6 +83,20 @@ CASES = [
     ("", "", COSTS + "/a,b,p,1,,/a,b, p ,2,,/", None, "ARCDATA ROW 2 COLUMN _NAME_: RepeatedArc"),
     ("", "", COSTS + "/a,b,.,,,/a,b,a_b,,,/", None, "ARCDATA ROW 2 COLUMN _NAME_: RepeatedArc"),
     ("", "name n;", ENDS + ",_NAME_,n/a,b,p,q/a,b,r,q/", None, "ARCDATA ROW 2 COLUMN n: RepeatedArc"),
+    # ---- ARCDATA: an arc that repeats another, and other faults before it and behind it
+    ("", "", COSTS + "/a,b,,,,/a,b,,,,/c,d,,x,,/", None, "ARCDATA ROW 2 COLUMN _NAME_: RepeatedArc"),
+    ("", "", COSTS + "/a,b,,,,/c,d,,x,,/a,b,,,,/", None, "ARCDATA ROW 2 COLUMN _COST_: Amount"),
+    ("", "", COSTS + "/a,b,,,,/c,d,,,,/a,b,,x,,/c,d,,,,/", None, "ARCDATA ROW 3 COLUMN _NAME_: RepeatedArc"),
+    ("", "", COSTS + "/a,b,,,,/a,b,,,2,1/", None, "ARCDATA ROW 2 COLUMN _NAME_: RepeatedArc"),
+    ("", "", COSTS + "/a,b,,,,/a,b,#,,,/", None, "ARCDATA ROW 2 COLUMN _NAME_: BadName"),
+    ("", "", COSTS + "/a,b,,,,/a,b,,,,/a,b,#,,,/", None, "ARCDATA ROW 2 COLUMN _NAME_: RepeatedArc"),
+    ("", "", ENDS + "/a,b/a,b/,c/", None, "ARCDATA ROW 2 COLUMN _NAME_: RepeatedArc"),
+    ("", "", ENDS + "/a,b/c,/a,b/", None, "ARCDATA ROW 2 COLUMN _TO_: BadName"),
+    ("", "", GIVEN + "/a,b,5,/c,d,,/a,b,6,/", None, "ARCDATA ROW 3 COLUMN _NAME_: RepeatedArc"),
+    ("", "", GIVEN + "/a,b,5,/a,c,6,/a,b,,/", None, "ARCDATA ROW 2 COLUMN _SUPPLY_: TwoSupplies"),
+    ("", "", COSTS + "/a,b,p,,,/a,b,q,,,/b,a,p,,,/a,b,,,,/a,b,q,,,/a,b,p,,,/", None, "ARCDATA ROW 5 COLUMN _NAME_: RepeatedArc"),
+    ("", "", ENDS + SQUARE + "/n3,n7/n0,n0/", None, "ARCDATA ROW 401 COLUMN _NAME_: RepeatedArc"),
+    ("", "", ENDS + SQUARE + "/n3,m/n0,n0/n3,m/", None, "ARCDATA ROW 402 COLUMN _NAME_: RepeatedArc"),
     # ---- ARCDATA: cost and bounds
     ("", "", COSTS + "/a,b,,x,,/", None, "ARCDATA ROW 1 COLUMN _COST_: Amount"),
     ("", "", COSTS + "/a,b,,1.2345,,/", None, "ARCDATA ROW 1 COLUMN _COST_: Amount"),

@@ -10,8 +10,6 @@ use Rattle.nf_cells.specs.declared.values.Supply.{Supply}
 use Rattle.nf_network.specs.declared.excess.Balance.{Balance}
 use Rattle.nf_network.specs.Excess.{gets, joined_below, sends}
 use Rattle.nf_network.specs.Faults.{excess}
-use Rattle.nf_network.specs.Keys.{Key, no_key}
-use Rattle.nf_network.specs.Making.{name_at}
 use Rattle.nf_network.specs.Network.{cells_at, excess_names_at, node_text_at, supdem_text}
 use Rattle.nf_network.proofs.Lists.{joined-more, joined-none}
 
@@ -23,14 +21,6 @@ pub nodes-more : (l b new : LabelList) (names : List Name) (vs : List (Option Su
     → n ≡ get_or names i [] → v ≡ get_or vs i None → new ≡ record b { nodes = b.nodes ++ record { name = n; supdem = supdem_text v } ∷ [] }
     → new ≡ record l { nodes = joined_below (i + 1) (node_text_at names vs) }
 nodes-more l b new names vs i n v hb hn hv e = rw (joined-more i (node_text_at names vs)) (e ∙ rw (hb, hn, hv) refl)
-
--- ---- arcs
-pub arcs-none : (l : LabelList) (ks : List Key) → l.columns ≡ [] → l.own_arcs ≡ 0 → l ≡ record l { columns = joined_below 0 (name_at ks); own_arcs = 0 }
-arcs-none l ks h z = ap (λ cs. record l { columns = cs }) (h ∙ sym (joined-none (name_at ks))) ∙ ap (λ n. record l { columns = joined_below 0 (name_at ks); own_arcs = n }) z
-
-pub arcs-more : (l b new : LabelList) (ks : List Key) (i : ℕ) (n : Name) → b ≡ record l { columns = joined_below i (name_at ks); own_arcs = i } → n ≡ (get_or ks i no_key).name
-    → new ≡ record b { columns = b.columns ++ n ∷ []; own_arcs = b.own_arcs + 1 } → new ≡ record l { columns = joined_below (i + 1) (name_at ks); own_arcs = i + 1 }
-arcs-more l b new ks i n hb hn e = rw (joined-more i (name_at ks)) (e ∙ rw (hb, hn) refl)
 
 -- ---- excess arcs
 pub columns-none : (l : LabelList) (f : ℕ → List Name) → l ≡ record l { columns = l.columns ++ joined_below 0 f }

@@ -13,3 +13,5 @@ pub mod LabelFacts
 pub mod FitFacts
 pub mod AsciiFacts
 pub mod TextFacts
+pub mod FirstFacts
+pub mod RepeatFacts

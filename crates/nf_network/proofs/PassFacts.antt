@@ -19,18 +19,18 @@ use Rattle.nf_network.specs.declared.rows.Defaults.{Defaults}
 use Rattle.nf_network.specs.declared.rows.Figures.{Figures}
 use Rattle.nf_roles.specs.Roles.{RoleColumns}
 use Rattle.nf_network.specs.Rows.{ArcRow, arc_row}
-use Rattle.nf_roles.specs.First.{first_of, first_below, or_else, fault_if, in_row, IsFaultOf}
-use Rattle.nf_roles.proofs.Lists.{none-more, found}
+use Rattle.nf_roles.specs.First.{first_of, or_else, fault_if, IsFaultOf}
 use Rattle.nf_network.specs.Arcs.{tail_of, head_of, arc_name, same_arc, ends_of, ends, gift, gifts_of, gifts, given}
-use Rattle.nf_network.specs.Faults.{node_faults, gift_faults, is_other, name_faults, figure_faults, arc_faults, arc_fault_at, first_arc_fault, empty_row, most_arcs}
+use Rattle.nf_network.specs.Faults.{node_faults, gift_faults, is_bad, is_other, name_faults, figure_faults, arc_faults, arc_fault_at, empty_row, most_arcs}
 use Rattle.nf_network.specs.Nodes.{NodeList, with_node}
 use Rattle.nf_network.specs.Given.{given_after}
-use Rattle.nf_network.specs.Keys.{Key, has_key, key_in}
+use Rattle.nf_network.specs.Keys.{Key, key_in}
 use Rattle.nf_network.specs.Arcs.{figures_of}
 use Rattle.nf_network.specs.Pass.{Stands, AreNamed, IsAfter, EndsNamed, ends_faults, with_ends, give_faults, ends_given}
 use Rattle.nf_network.specs.Rows.{arc_rows}
 use Rattle.nf_network.proofs.NodeFacts.{stands-node, stands-gift, stands-given}
-use Rattle.nf_network.proofs.KeyFacts.{named-still, named-push, same-any, place-still, keys-still}
+use Rattle.nf_network.specs.Repeats.{AreKeysOf}
+use Rattle.nf_network.proofs.KeyFacts.{named-still, named-push, place-still, keys-still}
 
 -- ---- first faults
 or-assoc : {A : Type 0} (a b c : Option A) → or_else (or_else a b) c ≡ or_else a (or_else b c)
@@ -47,6 +47,10 @@ left a b f (inr e) = inr (rw e refl)
 
 pub right : (a b : Option CellFault) (f : CellFault) → a ≡ None → IsFaultOf b f → IsFaultOf (or_else a b) f
 right a b f n h = rw n h
+
+or-none : (a : Option CellFault) → or_else a None ≡ a
+or-none None = refl
+or-none (Some f) = refl
 
 pub both : (a b : Option CellFault) → a ≡ None → b ≡ None → or_else a b ≡ None
 both a b n m = rw n m
@@ -129,6 +133,11 @@ pub map-length : {A B : Type 0} (f : A → B) (xs : List A) → length (map f xs
 map-length f [] = refl
 map-length f (x ∷ xs) = ap suc (map-length f xs)
 
+-- what is wrong with a row behind its name, if anything is
+abbrev pub behind_name : Defaults → List ArcRow → ArcRow → Option CellFault
+behind_name d above r = or_else (first_of (figure_faults d r))
+    (first_of (gift_faults role.Supply (given (gifts above) (tail_of r)) r.supply ++ gift_faults role.Demand (given (gifts above ++ gift (tail_of r) r.supply) (head_of r)) r.demand))
+
 module _ (d : Defaults) (above : List ArcRow) (r : ArcRow) (ns : NodeList) (ks : List Key) (fs : List Figures) (s : IsAfter d above ns ks fs) where
   parts : first_of (arc_faults d above r) ≡ or_else (fault_if (nat_le most_arcs (length above)) role.TailNode kind.LimitPassed) (or_else (first_of (ends_faults ns.names r))
       (or_else (first_of (name_faults r (list_any (same_arc r) above))) (or_else (first_of (figure_faults d r))
@@ -145,9 +154,6 @@ module _ (d : Defaults) (above : List ArcRow) (r : ArcRow) (ns : NodeList) (ks :
 
   keys2 : ks ≡ map (key_in (with_ends ns r).names) above
   keys2 = rw (ends-names ns r) (s.keys ∙ sym (keys-still (with_name ns.names (tail_of r)) (head_of r) above (named-still ns.names (tail_of r) above s.named) ∙ keys-still ns.names (tail_of r) above s.named))
-
-  repeats : has_key (key_in (with_ends ns r).names r) ks ≡ list_any (same_arc r) above
-  repeats = ap (has_key (key_in (with_ends ns r).names r)) keys2 ∙ same-any (with_ends ns r).names r above (has-tail ns r) (has-head ns r) named2
 
   -- after the supply
   stands3 : is_other (given (gifts above) (tail_of r)) r.supply ≡ false
@@ -226,56 +232,61 @@ module _ (d : Defaults) (above : List ArcRow) (r : ArcRow) (ns : NodeList) (ks :
     key-is : record { tail = t; head = h; name = arc_name r } ≡ key_in (with_ends ns r).names r
     key-is = rw (tail-is, head-is) refl
 
-    repeats-is : has_key (record { tail = t; head = h; name = arc_name r }) ks ≡ list_any (same_arc r) above
-    repeats-is = ap (λ k. has_key k ks) key-is ∙ repeats
+    pub row-name : (f : CellFault) → IsFaultOf (fault_if (is_bad r.name) role.ArcName kind.BadName) f → IsFaultOf (first_of (arc_faults d above r)) f
+    row-name f n = rw parts (right _ _ f (below-limit small) (right _ _ f e.clear (left _ _ f (left _ _ f n))))
 
-    pub row-name : (f : CellFault) → IsFaultOf (first_of (name_faults r (has_key (record { tail = t; head = h; name = arc_name r }) ks))) f → IsFaultOf (first_of (arc_faults d above r)) f
-    row-name f n = rw parts (right _ _ f (below-limit small) (right _ _ f e.clear (left _ _ f (rw repeats-is at n))))
+    -- its arc is among the keys
+    pub row-keys : AreKeysOf (above ++ r ∷ []) (ks ++ record { tail = t; head = h; name = arc_name r } ∷ [])
+    row-keys = record {
+      names = (with_ends ns r).names;
+      keys = rw (map-append (key_in (with_ends ns r).names) above (r ∷ []), key-is) (ap (λ l. l ++ key_in (with_ends ns r).names r ∷ []) keys2);
+      named = named-push (with_ends ns r).names r above named2 (has-tail ns r) (has-head ns r);
+    }
 
-    module _ (n : first_of (name_faults r (has_key (record { tail = t; head = h; name = arc_name r }) ks)) ≡ None) where
-      name-clear : first_of (name_faults r (list_any (same_arc r) above)) ≡ None
-      name-clear = rw repeats-is at n
+    -- what is left to find is a repeated arc and what is wrong behind the name
+    pub row-rest : is_bad r.name ≡ false → first_of (arc_faults d above r) ≡ or_else (fault_if (list_any (same_arc r) above) role.ArcName kind.RepeatedArc) (behind_name d above r)
+    row-rest good = rw (parts, below-limit small, e.clear, good, or-none (fault_if (list_any (same_arc r) above) role.ArcName kind.RepeatedArc)) refl
 
-      pub row-figures : (f : CellFault) → first_of (figure_faults d r) ≡ Some f → IsFaultOf (first_of (arc_faults d above r)) f
-      row-figures f q = rw parts (right _ _ f (below-limit small) (right _ _ f e.clear (right _ _ f name-clear (left _ _ f (inr q)))))
+    pub rest-figures : (f : CellFault) → first_of (figure_faults d r) ≡ Some f → behind_name d above r ≡ Some f
+    rest-figures f q = rw q refl
 
-      module _ (q : first_of (figure_faults d r) ≡ None) where
-        gives-are : first_of (give_faults new t h r)
-            ≡ first_of (gift_faults role.Supply (given (gifts above) (tail_of r)) r.supply ++ gift_faults role.Demand (given (gifts above ++ gift (tail_of r) r.supply) (head_of r)) r.demand)
-        gives-are = rw (e.nodes, tail-is, head-is) gives-same
+    module _ (q : first_of (figure_faults d r) ≡ None) where
+      gives-are : first_of (give_faults new t h r)
+          ≡ first_of (gift_faults role.Supply (given (gifts above) (tail_of r)) r.supply ++ gift_faults role.Demand (given (gifts above ++ gift (tail_of r) r.supply) (head_of r)) r.demand)
+      gives-are = rw (e.nodes, tail-is, head-is) gives-same
 
-        pub row-gives : (f : CellFault) → first_of (give_faults new t h r) ≡ Some f → IsFaultOf (first_of (arc_faults d above r)) f
-        row-gives f g = rw parts (right _ _ f (below-limit small) (right _ _ f e.clear (right _ _ f name-clear (right _ _ f q (inr (sym gives-are ∙ g))))))
+      pub rest-gives : (f : CellFault) → first_of (give_faults new t h r) ≡ Some f → behind_name d above r ≡ Some f
+      rest-gives f g = rw q (sym gives-are ∙ g)
 
-        module _ (g : first_of (give_faults new t h r) ≡ None) where
-          all-clear : first_of (gift_faults role.Supply (given (gifts above) (tail_of r)) r.supply ++ gift_faults role.Demand (given (gifts above ++ gift (tail_of r) r.supply) (head_of r)) r.demand) ≡ None
-          all-clear = sym gives-are ∙ g
+      module _ (g : first_of (give_faults new t h r) ≡ None) where
+        all-clear : first_of (gift_faults role.Supply (given (gifts above) (tail_of r)) r.supply ++ gift_faults role.Demand (given (gifts above ++ gift (tail_of r) r.supply) (head_of r)) r.demand) ≡ None
+        all-clear = sym gives-are ∙ g
 
-          two-clear : or_else (first_of (gift_faults role.Supply (given (gifts above) (tail_of r)) r.supply))
-              (first_of (gift_faults role.Demand (given (gifts above ++ gift (tail_of r) r.supply) (head_of r)) r.demand)) ≡ None
-          two-clear = sym (first-append (gift_faults role.Supply (given (gifts above) (tail_of r)) r.supply)
-              (gift_faults role.Demand (given (gifts above ++ gift (tail_of r) r.supply) (head_of r)) r.demand)) ∙ all-clear
+        two-clear : or_else (first_of (gift_faults role.Supply (given (gifts above) (tail_of r)) r.supply))
+            (first_of (gift_faults role.Demand (given (gifts above ++ gift (tail_of r) r.supply) (head_of r)) r.demand)) ≡ None
+        two-clear = sym (first-append (gift_faults role.Supply (given (gifts above) (tail_of r)) r.supply)
+            (gift_faults role.Demand (given (gifts above ++ gift (tail_of r) r.supply) (head_of r)) r.demand)) ∙ all-clear
 
-          supply-clear : is_other (given (gifts above) (tail_of r)) r.supply ≡ false
-          supply-clear = clear-gift role.Supply (given (gifts above) (tail_of r)) r.supply (first-none _ _ two-clear)
+        supply-clear : is_other (given (gifts above) (tail_of r)) r.supply ≡ false
+        supply-clear = clear-gift role.Supply (given (gifts above) (tail_of r)) r.supply (first-none _ _ two-clear)
 
-          demand-clear : is_other (given (gifts above ++ gift (tail_of r) r.supply) (head_of r)) r.demand ≡ false
-          demand-clear = clear-gift role.Demand (given (gifts above ++ gift (tail_of r) r.supply) (head_of r)) r.demand (second-none _ _ two-clear)
+        demand-clear : is_other (given (gifts above ++ gift (tail_of r) r.supply) (head_of r)) r.demand ≡ false
+        demand-clear = clear-gift role.Demand (given (gifts above ++ gift (tail_of r) r.supply) (head_of r)) r.demand (second-none _ _ two-clear)
 
-          pub row-clear : first_of (arc_faults d above r) ≡ None
-          row-clear = rw parts (both _ _ (below-limit small) (both _ _ e.clear (both _ _ name-clear (both _ _ q all-clear))))
+        pub rest-clear : behind_name d above r ≡ None
+        rest-clear = rw q all-clear
 
-          names4 : (ends_given (with_ends ns r) (place_of (tail_of r) (with_ends ns r).names) (place_of (head_of r) (with_ends ns r).names) r).names ≡ (with_ends ns r).names
-          names4 = after-names (given_after (with_ends ns r) (place_of (tail_of r) (with_ends ns r).names) r.supply) (place_of (head_of r) (with_ends ns r).names) r.demand
-              ∙ after-names (with_ends ns r) (place_of (tail_of r) (with_ends ns r).names) r.supply
+        names4 : (ends_given (with_ends ns r) (place_of (tail_of r) (with_ends ns r).names) (place_of (head_of r) (with_ends ns r).names) r).names ≡ (with_ends ns r).names
+        names4 = after-names (given_after (with_ends ns r) (place_of (tail_of r) (with_ends ns r).names) r.supply) (place_of (head_of r) (with_ends ns r).names) r.demand
+            ∙ after-names (with_ends ns r) (place_of (tail_of r) (with_ends ns r).names) r.supply
 
-          pub row-next : IsAfter d (above ++ r ∷ []) (ends_given new t h r) (ks ++ record { tail = t; head = h; name = arc_name r } ∷ []) (fs ++ figures_of d r ∷ [])
-          row-next = rw (e.nodes, tail-is, head-is) (record {
-            nodes = stands4 supply-clear demand-clear;
-            keys = rw (names4, map-append (key_in (with_ends ns r).names) above (r ∷ [])) (ap (λ l. l ++ key_in (with_ends ns r).names r ∷ []) keys2);
-            figures = rw (map-append (figures_of d) above (r ∷ [])) (ap (λ l. l ++ figures_of d r ∷ []) s.figures);
-            named = rw names4 (named-push (with_ends ns r).names r above named2 (has-tail ns r) (has-head ns r));
-          })
+        pub row-next : IsAfter d (above ++ r ∷ []) (ends_given new t h r) (ks ++ record { tail = t; head = h; name = arc_name r } ∷ []) (fs ++ figures_of d r ∷ [])
+        row-next = rw (e.nodes, tail-is, head-is) (record {
+          nodes = stands4 supply-clear demand-clear;
+          keys = rw (names4, map-append (key_in (with_ends ns r).names) above (r ∷ [])) (ap (λ l. l ++ key_in (with_ends ns r).names r ∷ []) keys2);
+          figures = rw (map-append (figures_of d) above (r ∷ [])) (ap (λ l. l ++ figures_of d r ∷ []) s.figures);
+          named = rw names4 (named-push (with_ends ns r).names r above named2 (has-tail ns r) (has-head ns r));
+        })
 
 -- ---- the row of a number
 row-is : (columns : RoleColumns) (h : Cells) (rows : List Cells) (i : ℕ) → i < length rows → get_or (arc_rows columns rows) i empty_row ≡ arc_row columns (get_or (h ∷ rows) (i + 1) [])
@@ -295,21 +306,6 @@ pub rows-more : (columns : RoleColumns) (rows : List Cells) (i : ℕ) (r : ArcRo
 rows-more columns rows i r below e =
     let all : length (arc_rows columns rows) ≡ length rows = map-length (arc_row columns) rows in
     take_more (arc_rows columns rows) i empty_row (omega (arith, all, below)) ∙ ap (λ q. take i (arc_rows columns rows) ++ q ∷ []) e
-
--- ---- the first of the rows
--- no row below i has a fault
-abbrev pub IsClearBelow : Defaults → List ArcRow → ℕ → Type 0
-IsClearBelow d rows i = first_below i (λ k. in_row (k + 1) (arc_fault_at d rows k)) ≡ None
-
-pub clear-none : (d : Defaults) (rows : List ArcRow) → IsClearBelow d rows 0
-unfolding first_below
-clear-none d rows = refl
-
-pub clear-more : (d : Defaults) (rows : List ArcRow) (i : ℕ) → IsClearBelow d rows i → arc_fault_at d rows i ≡ None → IsClearBelow d rows (i + 1)
-clear-more d rows i c h = none-more i (λ k. in_row (k + 1) (arc_fault_at d rows k)) c (ap (in_row (i + 1)) h)
-
-pub fault-found : (d : Defaults) (rows : List ArcRow) (i : ℕ) (f : CellFault) → IsClearBelow d rows i → i < length rows → arc_fault_at d rows i ≡ Some f → first_arc_fault d rows ≡ Some (i + 1, f)
-fault-found d rows i f c below h = found (length rows) i (λ k. in_row (k + 1) (arc_fault_at d rows k)) (i + 1, f) c (ap (in_row (i + 1)) h) below
 
 pub after-none : (d : Defaults) → IsAfter d [] (record { names = []; given = [] }) [] []
 unfolding first_seen is_once

@@ -14,3 +14,4 @@ pub mod Balanced
 pub mod OptionPass
 pub mod Whole
 pub mod Making
+pub mod Repeats

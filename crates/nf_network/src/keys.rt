@@ -1,57 +1,57 @@
 //! The arcs, each by its ends and its name.
-ghost use Rattle.std.specs.Prelude.{◌≡◌, ◌<◌, get_or, [], ◌∷◌, ◌++◌, false, not, length, IfOk, OnOk};
-ghost use Rattle.nf_network.specs.Keys.{has_key, no_key};
+ghost use Rattle.std.specs.Prelude.{◌≡◌, ◌<◌, ◌^◌, get_or, [], ◌∷◌, ◌++◌, length, IfErr, IfOk, OnOk};
+ghost use Rattle.nf_labels.specs.Labels.{no_labels};
+ghost use Rattle.nf_network.specs.Excess.{joined_below};
+ghost use Rattle.nf_network.specs.Keys.{no_key};
+ghost use Rattle.nf_network.specs.Making.{name_at};
 
-use indexmap::IndexSet;
-use nf_cells::Name;
+use nf_labels::Labels;
 use std::alloc::{AllocError, Global};
 use std::marker::Model;
 
-// An arc by the numbers of its ends and its name.
-type ArcKey = (usize, usize, Name);
-
-/// The arcs in their order.
+/// The arcs in their order. Their names stand in the labels that the problem gets, so that none is copied.
 #[derive(Drop)]
 pub struct ArcKeys {
-    set: IndexSet<ArcKey>,
+    ends: Vec<(usize, usize)>,
+    labels: Labels,
 }
 
 impl Model for ArcKeys {
     ghost use Rattle.std.specs.Prelude.{List};
     ghost use Rattle.nf_network.specs.Keys.{Key};
-    ghost use Rattle.nf_network.specs.KeysInside.{keys_inside};
+    ghost use Rattle.nf_network.specs.KeysInside.{HasOneNameEach, keys_inside};
 
     ghost Value = { List Key };
 
     ghost view = { keys_inside };
+
+    ghost invariant = { HasOneNameEach };
 }
 
 impl ArcKeys {
-    /// No arcs, with room for so many.
-    pub(crate) fn with_room(alloc: Global, arcs: usize) -> Result<ArcKeys, AllocError>
+    /// No arcs, with room for so many and for so many cells of ID columns.
+    pub(crate) fn with_room(alloc: Global, arcs: usize, ids: usize) -> Result<ArcKeys, AllocError>
         ensures { IfOk result (λ keys. keys ≡ []) }
     {
         Ok(ArcKeys {
-            set: IndexSet::with_capacity(alloc, arcs)?,
+            ends: Vec::with_capacity(alloc, arcs)?,
+            labels: Labels::with_capacity(alloc, arcs, ids)?,
         })
     }
 
     pub fn len(&self) -> usize
         ensures { result ≡ length self.now }
     {
-        self.set.len()
+        self.ends.len()
     }
 
-    /// The numbers of an arc's ends.
+    /// The numbers of an arc's ends, the tail first.
     pub(crate) fn ends(&self, i: usize) -> (usize, usize)
         requires { i < length self.now }
         ensures tail { result.0 ≡ (get_or self.now i no_key).tail }
         ensures head { result.1 ≡ (get_or self.now i no_key).head }
     {
-        match self.set.get_index(i) {
-            Some(key) => (key.0, key.1),
-            None => (0, 0),
-        }
+        self.ends[i]
     }
 
     /// The name of an arc.
@@ -59,19 +59,29 @@ impl ArcKeys {
         requires { i < length self.now }
         ensures { result.now ≡ (get_or self.now i no_key).name }
     {
-        match self.set.get_index(i) {
-            Some(key) => key.2.as_slice(),
-            None => &[],
+        self.labels.column(i as u32 + 1)
+    }
+
+    /// Adds an arc. `AllocError` where there is no memory: the arcs are as they were.
+    pub(crate) fn push(&mut self, tail: usize, head: usize, name: &[u8]) -> Result<(), AllocError>
+        requires room { length self.old < 2 ^ 30 }
+        ensures added { OnOk result (self.new ≡ self.old ++ record { tail = tail; head = head; name = name.now } ∷ []) }
+        ensures kept { IfErr result (λ _. self.new ≡ self.old) }
+    {
+        self.ends.push((tail, head))?;
+        match self.labels.push_arc(name) {
+            Ok(()) => Ok(()),
+            Err(fault) => {
+                self.ends.pop();
+                Err(fault)
+            }
         }
     }
 
-    /// Adds an arc, if it is new.
-    pub(crate) fn add(&mut self, tail: usize, head: usize, name: Name) -> Result<bool, AllocError>
-        ensures is_new { IfOk result (λ b. b ≡ not (has_key (record { tail = tail; head = head; name = name }) self.old)) }
-        ensures added { OnOk result (has_key (record { tail = tail; head = head; name = name }) self.old ≡ false
-            → self.new ≡ self.old ++ record { tail = tail; head = head; name = name } ∷ []) }
+    /// The labels, so far of the arcs alone.
+    pub(crate) fn into_labels(self) -> Labels
+        ensures { result ≡ record no_labels { columns = joined_below (length self) (name_at self); own_arcs = length self } }
     {
-        let (_, is_new) = self.set.insert_full((tail, head, name))?;
-        Ok(is_new)
+        self.labels
     }
 }

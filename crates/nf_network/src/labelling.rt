@@ -12,7 +12,6 @@ ghost use Rattle.nf_network.specs.Network.{cells_at, excess_names, excess_value,
 ghost use Rattle.nf_frac.specs.Texts.{frac_text};
 
 use crate::excess::Balance;
-use crate::keys::ArcKeys;
 use crate::nodes::Nodes;
 use crate::pass::{Arcs, name_of_arc};
 use nf_cells::Supply;
@@ -22,25 +21,22 @@ use nf_roles::Roles;
 use nf_table::Table;
 use std::alloc::{AllocError, Global};
 
-/// The labels of nodes and arcs, with the ID columns of the table of arcs.
+/// The labels of nodes and arcs, with the ID columns of the table of arcs. Those of the arcs are there already.
 pub(crate) fn make_labels(
     alloc: Global,
-    arcs: &Arcs,
+    arcs: Arcs,
     roles: &Roles,
     table: &Table,
     thrunet: bool,
 ) -> Result<Labels, AllocError>
-    requires sound { AreSound arcs.now.nodes arcs.now.keys arcs.now.figures.items }
+    requires sound { AreSound arcs.nodes arcs.keys arcs.figures.items }
     requires columns { HasColumnsBelow roles.now (length table.now.header) }
-    ensures { IfOk result (λ l. l ≡ labels_of thrunet arcs.now.nodes.names arcs.now.nodes.given (joined_below (length arcs.now.keys) (name_at arcs.now.keys)) roles.now.ids table.now) }
+    ensures { IfOk result (λ l. l ≡ labels_of thrunet arcs.nodes.names arcs.nodes.given (joined_below (length arcs.keys) (name_at arcs.keys)) roles.now.ids table.now) }
 {
     let balance = Balance::of(&arcs.nodes, thrunet);
-    let columns = arcs.keys.len() + arcs.nodes.len();
-    let ids = arcs.keys.len().saturating_mul(roles.ids().len());
-    let mut labels = Labels::with_capacity(alloc, columns, ids)?;
+    let mut labels = arcs.keys.into_labels();
     label_nodes(&mut labels, &arcs.nodes)?;
     label_excess(&mut labels, &arcs.nodes, balance)?;
-    label_arcs(&mut labels, &arcs.keys)?;
     label_excess_arcs(alloc, &mut labels, &arcs.nodes, balance)?;
     label_id_headers(&mut labels, roles, table)?;
     label_ids(&mut labels, roles, table)?;
@@ -88,19 +84,6 @@ fn label_excess(labels: &mut Labels, nodes: &Nodes, balance: Balance) -> Result<
     }
     let value = Frac::from_thousandths(-balance.total);
     labels.push_node(b"_EXCESS_", value.text().bytes())
-}
-
-// Adds the arcs.
-fn label_arcs(labels: &mut Labels, keys: &ArcKeys) -> Result<(), AllocError>
-    requires few { length keys.now ≤ most_arcs }
-    requires none { labels.old.columns ≡ [] }
-    requires no_arcs { labels.old.own_arcs ≡ 0 }
-    ensures { OnOk result (labels.new ≡ record labels.old { columns = joined_below (length keys.now) (name_at keys.now); own_arcs = length keys.now }) }
-{
-    for i in 0..keys.len() {
-        labels.push_arc(keys.name(i))?;
-    }
-    Ok(())
 }
 
 // Adds the excess arcs, by node number.

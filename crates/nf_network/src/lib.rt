@@ -3,6 +3,7 @@
 
 mod excess;
 mod figures;
+mod key_set;
 mod keys;
 mod labelling;
 mod made;
@@ -11,8 +12,10 @@ mod node_data;
 mod nodes;
 mod options;
 mod pass;
+mod places;
 mod read;
 mod reading;
+mod repeats;
 mod rows;
 
 pub use made::network;

@@ -61,7 +61,7 @@ pub fn network(
     };
     // They tell that cells are UTF-8, and that neither a name of the header nor an ID column stands twice.
     let (_width, _ids) = (arc_table.width(), arc_roles.ids());
-    match make_labels(alloc, &arcs, arc_roles, arc_table, options.thrunet) {
+    match make_labels(alloc, arcs, arc_roles, arc_table, options.thrunet) {
         Ok(labels) => Ok((builder, labels)),
         Err(_) => Err(DataFault::no_memory(alloc, SetName::Arcdata)),
     }

@@ -1,13 +1,13 @@
 //! A pass over the rows of ARCDATA.
-ghost use Rattle.std.specs.Prelude.{◌≡◌, ◌≤◌, ◌<◌, ◌+◌, ◌^◌, ◌⊎◌, ◌++◌, ◌∷◌, [], false, None, Some, length, take, get_or, IfOk, OnOk, MatchResult};
+ghost use Rattle.std.specs.Prelude.{◌≡◌, ◌≤◌, ◌<◌, ◌+◌, ◌^◌, ◌⊎◌, ◌++◌, ◌∷◌, [], false, None, Some, length, take, get_or, IfErr, IfOk, OnOk, MatchResult};
 ghost use Rattle.nf_roles.specs.Roles.{HasColumnsBelow};
 ghost use Rattle.nf_cells.specs.Values.{cell_now};
 ghost use Rattle.nf_roles.specs.First.{first_of, fault_if, IsFaultOf};
-ghost use Rattle.nf_network.specs.Faults.{is_bad, name_faults, arc_fault_at, first_arc_fault};
+ghost use Rattle.nf_network.specs.Faults.{is_bad, arc_fault_at, first_arc_fault};
 ghost use Rattle.nf_network.specs.Given.{IsEven};
-ghost use Rattle.nf_network.specs.Keys.{Key, has_key};
-ghost use Rattle.nf_network.specs.Arcs.{arc_name, said as said_of};
+ghost use Rattle.nf_network.specs.Arcs.{arc_name, head_of, said as said_of, tail_of};
 ghost use Rattle.nf_network.specs.Pass.{EndsNamed, IsAfter, ends_faults, ends_given, give_faults};
+ghost use Rattle.nf_network.specs.Repeats.{AreClearBut, IsStopped, IsStoppedIn, repeat_fault};
 ghost use Rattle.nf_network.specs.Rows.{arc_rows};
 ghost use Rattle.nf_network.specs.Rows.{arc_row_now};
 
@@ -15,6 +15,7 @@ use crate::figures::read_figures;
 use crate::keys::ArcKeys;
 use crate::nodes::{Nodes, no_memory};
 use crate::reading::read_arc_row;
+use crate::repeats::first_repeat;
 use crate::rows::{ArcRow, Defaults, Figures};
 use nf_cells::{Cell, Name};
 use nf_roles::{CellFault, DataKind, Roles};
@@ -90,28 +91,20 @@ fn said<'a>(cell: Cell<&'a [u8]>) -> &'a [u8]
     }
 }
 
-// The name of an arc.
-fn read_arc_name(alloc: Global, row: &ArcRow<'_>) -> Result<Name, CellFault>
-    ensures { MatchResult result (λ v. (is_bad (arc_row_now row.now).name ≡ false) × (v ≡ arc_name (arc_row_now row.now)))
-        (IsFaultOf (fault_if (is_bad (arc_row_now row.now).name) Role.ArcName DataKind.BadName)) }
+// Adds an arc that has no name of its own.
+fn push_unnamed(
+    alloc: Global,
+    keys: &mut ArcKeys,
+    tail: usize,
+    head: usize,
+    row: &ArcRow<'_>,
+) -> Result<(), AllocError>
+    requires room { length keys.old < 2 ^ 30 }
+    ensures added { OnOk result (keys.new ≡ keys.old ++ record { tail = tail; head = head; name = tail_of (arc_row_now row.now) ++ 95 ∷ head_of (arc_row_now row.now) } ∷ []) }
+    ensures kept { IfErr result (λ _. keys.new ≡ keys.old) }
 {
-    let name = match row.name {
-        Cell::Missing => name_of_arc(alloc, said(row.tail), said(row.head)),
-        Cell::Is(name) => Name::from_slice(alloc, name),
-        Cell::Bad => {
-            return Err(CellFault {
-                role: Role::ArcName,
-                kind: DataKind::BadName,
-            });
-        }
-    };
-    match name {
-        Ok(name) => Ok(name),
-        Err(_) => Err(CellFault {
-            role: Role::ArcName,
-            kind: DataKind::NoMemory,
-        }),
-    }
+    let name = name_of_arc(alloc, said(row.tail), said(row.head))?;
+    keys.push(tail, head, name.as_slice())
 }
 
 // Adds the arc of a row whose ends have these numbers.
@@ -122,40 +115,40 @@ fn add_key(
     head: usize,
     row: &ArcRow<'_>,
 ) -> Result<(), CellFault>
-    ensures { let k : Key = record { tail = tail; head = head; name = arc_name (arc_row_now row.now) } in
-        MatchResult result (λ _. (first_of (name_faults (arc_row_now row.now) (has_key k keys.old)) ≡ None) × (keys.new ≡ keys.old ++ k ∷ []))
-        (IsFaultOf (first_of (name_faults (arc_row_now row.now) (has_key k keys.old)))) }
+    requires room { length keys.old < 2 ^ 30 }
+    ensures { MatchResult result
+        (λ _. (is_bad (arc_row_now row.now).name ≡ false) × (keys.new ≡ keys.old ++ record { tail = tail; head = head; name = arc_name (arc_row_now row.now) } ∷ []))
+        (λ f. IsFaultOf (fault_if (is_bad (arc_row_now row.now).name) Role.ArcName DataKind.BadName) f × (keys.new ≡ keys.old)) }
 {
-    let name = match read_arc_name(alloc, row) {
-        Ok(name) => name,
-        Err(fault) => return Err(fault),
+    let added = match row.name {
+        Cell::Missing => push_unnamed(alloc, keys, tail, head, row),
+        Cell::Is(name) => keys.push(tail, head, name),
+        Cell::Bad => {
+            return Err(CellFault {
+                role: Role::ArcName,
+                kind: DataKind::BadName,
+            });
+        }
     };
-    match keys.add(tail, head, name) {
-        Ok(true) => Ok(()),
-        Ok(false) => Err(CellFault {
-            role: Role::ArcName,
-            kind: DataKind::RepeatedArc,
-        }),
-        Err(_) => Err(CellFault {
-            role: Role::ArcName,
-            kind: DataKind::NoMemory,
-        }),
+    match added {
+        Ok(()) => Ok(()),
+        Err(_) => Err(no_memory(Role::ArcName)),
     }
 }
 
 impl Arcs {
-    // No arcs and no nodes, with room for so many arcs.
-    fn with_room(alloc: Global, arcs: usize) -> Result<Arcs, AllocError>
+    // No arcs and no nodes, with room for so many arcs and for so many cells of ID columns.
+    fn with_room(alloc: Global, arcs: usize, ids: usize) -> Result<Arcs, AllocError>
         ensures { IfOk result (λ a. (a.nodes ≡ record { names = []; given = [] }) × (a.keys ≡ []) × (a.figures.items ≡ [])) }
     {
         Ok(Arcs {
             nodes: Nodes::new(alloc),
-            keys: ArcKeys::with_room(alloc, arcs)?,
+            keys: ArcKeys::with_room(alloc, arcs, ids)?,
             figures: Vec::with_capacity(alloc, arcs)?,
         })
     }
 
-    // Takes the row behind the first `i` ones.
+    // Takes the row behind the first `i` ones. Whether its arc repeats another is left open.
     fn take_row(
         &mut self,
         alloc: Global,
@@ -169,9 +162,9 @@ impl Arcs {
         requires fits { i + 1 < 2 ^ 32 }
         requires after { IsAfter defaults.now (take i (arc_rows roles.now table.now.rows)) self.old.nodes self.old.keys self.old.figures.items }
         ensures { MatchResult result
-            (λ _. (arc_fault_at defaults.now (arc_rows roles.now table.now.rows) i ≡ None)
+            (λ _. (arc_fault_at defaults.now (arc_rows roles.now table.now.rows) i ≡ repeat_fault (arc_rows roles.now table.now.rows) i)
             × IsAfter defaults.now (take (i + 1) (arc_rows roles.now table.now.rows)) self.new.nodes self.new.keys self.new.figures.items)
-            (IsFaultOf (arc_fault_at defaults.now (arc_rows roles.now table.now.rows) i)) }
+            (λ f. IsStopped defaults.now (arc_rows roles.now table.now.rows) i f self.new.keys) }
     {
         let row = read_arc_row(roles, table, i + 1);
         if self.keys.len() >= MOST_ARCS {
@@ -198,15 +191,39 @@ impl Arcs {
         }
         match self.figures.push(figures) {
             Ok(()) => Ok(()),
-            Err(_) => Err(CellFault {
-                role: Role::TailNode,
-                kind: DataKind::NoMemory,
-            }),
+            Err(_) => Err(no_memory(Role::TailNode)),
         }
+    }
+
+    // Takes all rows, up to the first fault. Whether arcs repeat others is left open.
+    fn take_rows(
+        &mut self,
+        alloc: Global,
+        roles: &Roles,
+        table: &Table,
+        defaults: &Defaults,
+    ) -> Result<(), RowFault>
+        requires below { HasColumnsBelow roles.now (length table.now.header) }
+        requires empty { IsAfter defaults.now [] self.old.nodes self.old.keys self.old.figures.items }
+        ensures { MatchResult result
+            (λ _. AreClearBut defaults.now (arc_rows roles.now table.now.rows) (length (arc_rows roles.now table.now.rows))
+            × IsAfter defaults.now (arc_rows roles.now table.now.rows) self.new.nodes self.new.keys self.new.figures.items)
+            (λ e. IsStoppedIn defaults.now (arc_rows roles.now table.now.rows) e.row e.fault self.new.keys) }
+    {
+        for i in 0..table.rows() {
+            match self.take_row(alloc, roles, table, defaults, i) {
+                Ok(()) => {}
+                Err(fault) => return Err(RowFault { row: i + 1, fault }),
+            }
+        }
+        Ok(())
     }
 }
 
 /// The arcs of ARCDATA, with the nodes that they name and what these are given; or the first fault.
+///
+/// Repeated arcs are looked for at the end, or where another fault ends the pass; one in an earlier row, or in this row
+/// before its figures, is the first fault all the same.
 pub fn read_arcs(
     alloc: Global,
     roles: &Roles,
@@ -219,17 +236,30 @@ pub fn read_arcs(
         × IsAfter defaults.now (arc_rows roles.now table.now.rows) a.nodes a.keys a.figures.items)
         (λ e. (e.fault.kind ≡ DataKind.NoMemory) ⊎ (first_arc_fault defaults.now (arc_rows roles.now table.now.rows) ≡ Some (e.row, e.fault))) }
 {
-    let Ok(mut arcs) = Arcs::with_room(alloc, (table.rows() as usize).min(MOST_ARCS)) else {
+    let rows = (table.rows() as usize).min(MOST_ARCS);
+    let ids = rows.saturating_mul(roles.ids().len());
+    let Ok(mut arcs) = Arcs::with_room(alloc, rows, ids) else {
         return Err(RowFault {
             row: 1,
             fault: no_memory(Role::TailNode),
         });
     };
-    for i in 0..table.rows() {
-        match arcs.take_row(alloc, roles, table, defaults, i) {
-            Ok(()) => {}
-            Err(fault) => return Err(RowFault { row: i + 1, fault }),
-        }
+    let taken = arcs.take_rows(alloc, roles, table, defaults);
+    let Ok(repeat) = first_repeat(alloc, &arcs.keys) else {
+        return Err(RowFault {
+            row: 1,
+            fault: no_memory(Role::ArcName),
+        });
+    };
+    match (repeat, taken) {
+        (Some(j), _) => Err(RowFault {
+            row: j as u32 + 1,
+            fault: CellFault {
+                role: Role::ArcName,
+                kind: DataKind::RepeatedArc,
+            },
+        }),
+        (None, Err(fault)) => Err(fault),
+        (None, Ok(())) => Ok(arcs),
     }
-    Ok(arcs)
 }

@@ -9,26 +9,24 @@ use Rattle.nf_network.proofs.labelling.make_labels.Goals as goal
 pub label_excess-requires-clause-room : goal.label_excess-requires-clause-room
 label_excess-requires-clause-room c =
     let size = ap (λ l. length l.nodes) c.in_ok-label_nodes.ensures
-    ∙ joined-ones (length c.args.arcs.now.nodes.names) (λ k. record { name = get_or c.args.arcs.now.nodes.names k []; supdem = supdem_text (get_or c.args.arcs.now.nodes.given k None) }) in
+    ∙ joined-ones (length c.args.arcs.nodes.names) (λ k. record { name = get_or c.args.arcs.nodes.names k []; supdem = supdem_text (get_or c.args.arcs.nodes.given k None) }) in
     omega (arith, size, c.requires.sound.few_nodes)
 
 pub label_excess_arcs-requires-clause-room : goal.label_excess_arcs-requires-clause-room
 label_excess_arcs-requires-clause-room c =
-    let size = ap (λ l. length l.columns) c.in_ok-label_arcs.ensures ∙ joined-ones (length c.args.arcs.now.keys) (λ k. (get_or c.args.arcs.now.keys k no_key).name) in
-    omega (arith, size, c.requires.sound.few_arcs)
+    let names = joined-ones (length c.args.arcs.keys) (λ k. (get_or c.args.arcs.keys k no_key).name) in
+    rw (c.in_ok-label_excess.ensures, c.in_ok-label_nodes.ensures, c.into_labels-labels.ensures) (omega (arith, names, c.requires.sound.few_arcs))
 
 pub returns : goal.returns
 returns c =
-    let own : length (joined_below (length c.args.arcs.now.keys) (name_at c.args.arcs.now.keys)) ≡ length c.args.arcs.now.keys =
-    joined-ones (length c.args.arcs.now.keys) (λ k. (get_or c.args.arcs.now.keys k no_key).name) in
+    let own : length (joined_below (length c.args.arcs.keys) (name_at c.args.arcs.keys)) ≡ length c.args.arcs.keys = joined-ones (length c.args.arcs.keys) (λ k. (get_or c.args.arcs.keys k no_key).name) in
     rw (
       c.in_ok-label_ids.ensures,
       c.in_ok-label_id_headers.ensures,
       c.in_ok-label_excess_arcs.ensures,
-      c.in_ok-label_arcs.ensures,
       c.in_ok-label_excess.ensures,
       c.in_ok-label_nodes.ensures,
-      c.in_ok-labels.ensures.empty,
+      c.into_labels-labels.ensures,
       c.of-balance.ensures.balance,
       own,
     ) refl

@@ -1,29 +1,38 @@
-use Rattle.std.proofs.Common.{◌≡◌, ◌<◌, length, take, inl, inr, arith}
-use Rattle.std.proofs.lemmas.List.{take_all}
+use Rattle.std.proofs.Common.{None, Some, subst, inr, arith}
+use Rattle.nf_network.specs.Repeats.{IsFirstRepeat}
 use Rattle.nf_network.specs.Rows.{arc_rows}
-use Rattle.nf_network.proofs.PassFacts.{IsClearBelow, after-none, clear-none, clear-more, fault-found, rows-length}
+use Rattle.nf_network.proofs.FirstFacts.{IsTaken, keys-after, stopped-alone, taken-few, taken-repeat, whole-clear}
+use Rattle.nf_network.proofs.PassFacts.{after-none, rows-length}
 use Rattle.nf_network.proofs.pass.read_arcs.Goals as goal
 
-pub loop-i-init : goal.loop-i-init
-loop-i-init c = (rw (c.in-Ok.ensures.0, c.in-Ok.ensures.1, c.in-Ok.ensures.2) (after-none c.args.defaults.now), clear-none c.args.defaults.now (arc_rows c.args.roles.now c.args.table.now.rows))
+pub take_rows-taken-requires-clause-empty : goal.take_rows-taken-requires-clause-empty
+take_rows-taken-requires-clause-empty c = rw (c.in-Ok.ensures.0, c.in-Ok.ensures.1, c.in-Ok.ensures.2) (after-none c.args.defaults.now)
 
-pub loop-i-preserved : goal.loop-i-preserved
-loop-i-preserved c =
-    (c.in-Ok-take_row.ensures.1, clear-more c.args.defaults.now (arc_rows c.args.roles.now c.args.table.now.rows) c.loop-i.i c.loop-i.invariant.1 c.in-Ok-take_row.ensures.0)
+pub overflow_cast-result : goal.overflow_cast-result
+overflow_cast-result c =
+    let first : IsFirstRepeat c.take_rows-taken.new.self.keys (Some c.in-Some-default.j) = subst (IsFirstRepeat c.take_rows-taken.new.self.keys) c.in-Some-default.is-0 c.in-Ok-first_repeat.ensures in
+    let few = taken-few c.args.defaults.now (arc_rows c.args.roles.now c.args.table.now.rows) _ _ _ c.take_rows-taken.result c.take_rows-taken.ensures in
+    omega (arith, first.0, few, rows-length c.args.roles.now c.args.table.now.rows, c.rows.ensures, c.rows.type_inv)
 
-pub returns-in-Err : goal.returns-in-Err
-returns-in-Err c =
-    let all = rows-length c.args.roles.now c.args.table.now.rows in
-    let below : c.loop-i.i < length (arc_rows c.args.roles.now c.args.table.now.rows) = omega (arith, all, c.rows-i-end.ensures, c.loop-i-test.true) in
-    elim c.in-Err.ensures [
-      | inl m ↦ inl m
-      | inr e ↦ inr (fault-found c.args.defaults.now (arc_rows c.args.roles.now c.args.table.now.rows) c.loop-i.i c.in-Err.fault c.loop-i.invariant.1 below e)
-    ]
+pub overflow_add-result : goal.overflow_add-result
+overflow_add-result c =
+    let first : IsFirstRepeat c.take_rows-taken.new.self.keys (Some c.in-Some-default.j) = subst (IsFirstRepeat c.take_rows-taken.new.self.keys) c.in-Some-default.is-0 c.in-Ok-first_repeat.ensures in
+    let few = taken-few c.args.defaults.now (arc_rows c.args.roles.now c.args.table.now.rows) _ _ _ c.take_rows-taken.result c.take_rows-taken.ensures in
+    omega (arith, first.0, few, rows-length c.args.roles.now c.args.table.now.rows, c.rows.ensures, c.rows.type_inv)
 
-pub returns : goal.returns
-returns c =
-    let all = rows-length c.args.roles.now c.args.table.now.rows in
-    let at_end : length (arc_rows c.args.roles.now c.args.table.now.rows) ≡ c.loop-i.i = omega (arith, all, c.rows-i-end.ensures, c.loop-i-test.false, c.loop-i.auto.i-end) in
-    let whole : take c.loop-i.i (arc_rows c.args.roles.now c.args.table.now.rows) ≡ arc_rows c.args.roles.now c.args.table.now.rows = take_all c.loop-i.i (arc_rows c.args.roles.now c.args.table.now.rows) (omega (arith, at_end)) in
-    let none : IsClearBelow c.args.defaults.now (arc_rows c.args.roles.now c.args.table.now.rows) (length (arc_rows c.args.roles.now c.args.table.now.rows)) = rw at_end c.loop-i.invariant.1 in
-    (none, rw whole at c.loop-i.invariant.0)
+pub returns-in-Some-default : goal.returns-in-Some-default
+returns-in-Some-default c =
+    let first : IsFirstRepeat c.take_rows-taken.new.self.keys (Some c.in-Some-default.j) = subst (IsFirstRepeat c.take_rows-taken.new.self.keys) c.in-Some-default.is-0 c.in-Ok-first_repeat.ensures in
+    inr (taken-repeat c.args.defaults.now (arc_rows c.args.roles.now c.args.table.now.rows) _ _ _ c.take_rows-taken.result c.in-Some-default.j c.take_rows-taken.ensures first)
+
+pub returns-in-None-Err : goal.returns-in-None-Err
+returns-in-None-Err c =
+    let none : IsFirstRepeat c.take_rows-taken.new.self.keys None = subst (IsFirstRepeat c.take_rows-taken.new.self.keys) c.in-None-Err.is-0 c.in-Ok-first_repeat.ensures in
+    let stopped = subst (IsTaken c.args.defaults.now (arc_rows c.args.roles.now c.args.table.now.rows) c.take_rows-taken.new.self.nodes c.take_rows-taken.new.self.keys c.take_rows-taken.new.self.figures.items) c.in-None-Err.is-1 c.take_rows-taken.ensures in
+    stopped-alone c.args.defaults.now (arc_rows c.args.roles.now c.args.table.now.rows) _ _ _ stopped none
+
+pub returns-in-None-Ok : goal.returns-in-None-Ok
+returns-in-None-Ok c =
+    let none : IsFirstRepeat c.take_rows-taken.new.self.keys None = subst (IsFirstRepeat c.take_rows-taken.new.self.keys) c.in-None-Ok.is-0 c.in-Ok-first_repeat.ensures in
+    let whole = subst (IsTaken c.args.defaults.now (arc_rows c.args.roles.now c.args.table.now.rows) c.take_rows-taken.new.self.nodes c.take_rows-taken.new.self.keys c.take_rows-taken.new.self.figures.items) c.in-None-Ok.is-1 c.take_rows-taken.ensures in
+    (whole-clear c.args.defaults.now (arc_rows c.args.roles.now c.args.table.now.rows) _ whole.0 (keys-after c.args.defaults.now (arc_rows c.args.roles.now c.args.table.now.rows) _ _ _ whole.1) none, whole.1)

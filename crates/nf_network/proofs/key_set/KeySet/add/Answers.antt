@@ -1,7 +1,7 @@
 use Rattle.std.proofs.Common.{◌∙◌, ◌++◌, ◌∷◌, [], not, sym, ap, map}
 use Rattle.nf_network.specs.Keys.{has_key}
 use Rattle.nf_network.proofs.KeyFacts.{any-map, key-added}
-use Rattle.nf_network.proofs.keys.ArcKeys.add.Goals as goal
+use Rattle.nf_network.proofs.key_set.KeySet.add.Goals as goal
 
 pub returns-clause-is_new : goal.returns-clause-is_new
 returns-clause-is_new c =
