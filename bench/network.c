@@ -5,25 +5,27 @@
  *     network whole|tables
  *
  * It reads arcs.csv in the folder in which it is started, as bench/network.py writes it: seven columns, no quotes. It cuts
- * the text into cells and, unless these alone are asked for, numbers the nodes in order of first appearance, sees that no
- * arc repeats another, reads each arc's numbers, and makes the labels, the columns and the lists by row. */
+ * the text into cells and, unless these alone are asked for, numbers the nodes in order of first appearance, reads each
+ * arc's name and numbers, sees that no arc repeats another, and makes the labels, the columns and the lists by row. */
 #include <stdint.h>
 #include <stdio.h>
 #include <stdlib.h>
 #include <string.h>
 
-enum { COLUMNS = 7, MOST_NODES = 1 << 15, NODE_SLOTS = 1 << 16, ARC_SLOTS = 1 << 19, NONE = -1 };
+enum { COLUMNS = 7, MOST_NODES = 1 << 15, NODE_SLOTS = 1 << 16, PLACES_PER_ARC = 16, NONE = -1 };
 
 typedef struct { __int128 numerator; unsigned __int128 denominator; } Frac;
 typedef struct { Frac value; uint32_t number; } Entry;
 typedef struct { const char *bytes; size_t length; } Cell;
 typedef struct { char bytes[24]; size_t length; } Name;
-typedef struct { size_t tail, head; Name name; } Arc;
+typedef struct { size_t tail, head; } Arc;
+typedef struct { size_t start, end; } Span;
 typedef struct { int64_t cost, lower, upper; } Figures;
+typedef struct { int64_t numerator; uint32_t denominator, is_wide; } Number;
 typedef struct {
-    Frac cost, lower, upper;
-    uint32_t tail, head;
+    Number cost, lower, upper;
     size_t is_bounded;
+    uint32_t tail, head;
     Entry entries[2];
     size_t length, is_inline;
 } Column;
@@ -32,9 +34,11 @@ static char *text;
 static size_t *ends;
 static size_t rows;
 static Name *nodes;
-static int32_t *node_slots, *arc_slots;
-static size_t node_count, arc_count;
+static int32_t *node_slots;
+static size_t node_count, names_length;
 static Arc *arcs;
+static char *names;
+static Span *spans;
 static Figures *figures;
 static Column *columns;
 
@@ -143,20 +147,63 @@ static size_t number_of(Cell name)
     return node_count++;
 }
 
-static void add_arc(size_t tail, size_t head, Cell name)
+static void add_arc(size_t row, size_t tail, size_t head, Cell name)
 {
-    size_t slot = folded(hash(name, tail), head + 1) & (ARC_SLOTS - 1);
-    for (; arc_slots[slot] != NONE; slot = (slot + 1) & (ARC_SLOTS - 1)) {
-        const Arc *other = &arcs[arc_slots[slot]];
-        if (other->tail == tail && other->head == head && is_same(&other->name, name))
-            exit(5);
+    arcs[row - 1] = (Arc){tail, head};
+    memcpy(names + names_length, name.bytes, name.length);
+    spans[row - 1].start = names_length;
+    spans[row - 1].end = names_length += name.length;
+}
+
+static Cell name_of(size_t j)
+{
+    return (Cell){names + spans[j].start, spans[j].end - spans[j].start};
+}
+
+static int are_same(size_t i, size_t j)
+{
+    Cell a = name_of(i), b = name_of(j);
+    return arcs[i].tail == arcs[j].tail && arcs[i].head == arcs[j].head && a.length == b.length && !memcmp(a.bytes, b.bytes, a.length);
+}
+
+static size_t place_of(size_t j, size_t places)
+{
+    return (arcs[j].tail * 20011 + arcs[j].head) % places;
+}
+
+static int has(const uint64_t *set, size_t place)
+{
+    return set[place / 64] >> place % 64 & 1;
+}
+
+/* Looks among arcs whose place is another's too. */
+static void look_for_repeats(void)
+{
+    size_t places = rows * PLACES_PER_ARC + 1, count = 0, slots = 2;
+    uint64_t *taken = calloc(places / 64 + 1, sizeof *taken), *shared = calloc(places / 64 + 1, sizeof *shared);
+    for (size_t j = 0; j < rows; j++) {
+        size_t place = place_of(j, places);
+        if (has(taken, place))
+            shared[place / 64] |= (uint64_t)1 << place % 64;
+        taken[place / 64] |= (uint64_t)1 << place % 64;
     }
-    arc_slots[slot] = (int32_t)arc_count;
-    Arc *arc = &arcs[arc_count++];
-    arc->tail = tail;
-    arc->head = head;
-    memcpy(arc->name.bytes, name.bytes, name.length);
-    arc->name.length = name.length;
+    for (size_t j = 0; j < rows; j++)
+        count += has(shared, place_of(j, places));
+    while (slots < 2 * count)
+        slots *= 2;
+    int32_t *arc_slots = memset(memory(slots * sizeof *arc_slots), 0xff, slots * sizeof *arc_slots);
+    for (size_t j = 0; j < rows; j++) {
+        if (!has(shared, place_of(j, places)))
+            continue;
+        size_t slot = folded(hash(name_of(j), arcs[j].tail), arcs[j].head + 1) & (slots - 1);
+        for (; arc_slots[slot] != NONE; slot = (slot + 1) & (slots - 1))
+            if (are_same((size_t)arc_slots[slot], j))
+                exit(5);
+        arc_slots[slot] = (int32_t)j;
+    }
+    free(taken);
+    free(shared);
+    free(arc_slots);
 }
 
 static void read_arcs(void)
@@ -164,11 +211,12 @@ static void read_arcs(void)
     nodes = memory(MOST_NODES * sizeof *nodes);
     node_slots = memset(memory(NODE_SLOTS * sizeof *node_slots), 0xff, NODE_SLOTS * sizeof *node_slots);
     arcs = memory(rows * sizeof *arcs);
-    arc_slots = memset(memory(ARC_SLOTS * sizeof *arc_slots), 0xff, ARC_SLOTS * sizeof *arc_slots);
+    names = memory(rows * sizeof nodes->bytes);
+    spans = memory(rows * sizeof *spans);
     figures = memory(rows * sizeof *figures);
     for (size_t row = 1; row <= rows; row++) {
         size_t tail = number_of(name_cell(row, 0)), head = number_of(name_cell(row, 1));
-        add_arc(tail, head, name_cell(row, 2));
+        add_arc(row, tail, head, name_cell(row, 2));
         Figures *f = &figures[row - 1];
         *f = (Figures){amount_cell(row, 3), amount_cell(row, 4), amount_cell(row, 5)};
         if (f->upper < f->lower)
@@ -176,23 +224,21 @@ static void read_arcs(void)
     }
 }
 
+/* The names are labels already; the cells of the ID column come behind them. */
 static size_t make_labels(void)
 {
-    char *names = memory(rows * sizeof arcs->name.bytes);
-    size_t *spans = memory(rows * 2 * sizeof *spans), *ids = memory(rows * 2 * sizeof *ids), length = 0;
+    Span *ids = memory(rows * sizeof *ids);
+    size_t length = 0;
     for (size_t j = 0; j < rows; j++) {
-        const Name *name = &arcs[j].name;
-        memcpy(names + length, name->bytes, name->length);
-        spans[2 * j] = length;
-        spans[2 * j + 1] = length += name->length;
-        ids[2 * j] = ids[2 * j + 1] = cell(j + 1, 6).length;
+        ids[j].start = length;
+        ids[j].end = length += cell(j + 1, 6).length;
     }
-    return length;
+    return length + names_length;
 }
 
-static Frac whole(int64_t thousandths)
+static Number whole(int64_t thousandths)
 {
-    return (Frac){thousandths / 1000, 1};
+    return (Number){thousandths / 1000, 1, 0};
 }
 
 static void make_columns(void)
@@ -212,7 +258,6 @@ static void make_columns(void)
         c->length = c->tail == c->head ? 0 : 2;
     }
     free(arcs);
-    free(arc_slots);
     free(figures);
 }
 
@@ -244,6 +289,7 @@ int main(int count, char **words)
     if (strcmp(words[1], "whole"))
         return 0;
     read_arcs();
+    look_for_repeats();
     size_t length = make_labels();
     make_columns();
     printf("%zu arcs, %zu nodes, %zu bytes of names, an entry of column %zu\n", rows, node_count, length, make_lists_by_row());
