@@ -4,7 +4,7 @@ use Rattle.std.proofs.lemmas.Bool.{false≢true, cases_Bool}
 use Rattle.std.proofs.lemmas.Bool.Decides.{Decides-int_eq}
 use Rattle.std.proofs.lemmas.List.{append-nil, map-append, length-append}
 use Rattle.std.proofs.lemmas.List.Sums.{prefix_len-le-length}
-use Rattle.std.proofs.lemmas.List.Folds.{list_any-append}
+use Rattle.std.proofs.lemmas.List.Folds.{list_any-append, list_any_at}
 use Rattle.std.specs.Bool.{nat_lt}
 use Rattle.std.specs.Str.{bytes_eq}
 use Rattle.nf_cells.specs.Names.{Name, has_name, place_of, with_name, first_seen, is_once}
@@ -172,3 +172,31 @@ named-new r old n i good is small below even = by_cases (cases_Bool (has_name n 
         let same_nodes : record { names = with_name old.names n; given = old.given ++ None ∷ [] } ≡ with_node old n = rw e refl in
         let at_most : place_of n old.names ≤ length old.names = prefix_len-le-length (λ m. not (bytes_eq n m)) old.names in
         record { clear = rw (good, within n old.names small) refl; place = is; below = omega (arith, at_most, is, longer); nodes = same_nodes }
+
+-- ---- a name at its place
+once-first : (k : Name) (ks : List Name) → is_once (k ∷ ks) ≡ true → has_name k ks ≡ false
+unfolding is_once
+once-first k ks o = by_cases (cases_Bool (has_name k ks))
+  where
+    by_cases : (has_name k ks ≡ true) ⊎ (has_name k ks ≡ false) → has_name k ks ≡ false
+    by_cases (inl e) = absurd (false≢true (rw e at o))
+    by_cases (inr e) = e
+
+once-rest : (k : Name) (ks : List Name) → is_once (k ∷ ks) ≡ true → is_once ks ≡ true
+unfolding is_once
+once-rest k ks o = rw (once-first k ks o) at o
+
+pub has-at : (ks : List Name) (i : ℕ) → i < length ks → has_name (get_or ks i []) ks ≡ true
+has-at ks i below = list_any_at (bytes_eq (get_or ks i [])) ks i [] below (eq-self (get_or ks i []))
+
+pub place-once : (ks : List Name) (i : ℕ) → is_once ks ≡ true → i < length ks → place_of (get_or ks i []) ks ≡ i
+unfolding is_once
+place-once [] i o below = absurd (omega (arith, below))
+place-once (k ∷ ks) zero o below = rw (eq-self k) refl
+place-once (k ∷ ks) (suc i) o below = by_cases (cases_Bool (bytes_eq (get_or ks i []) k)) (has-at ks i (omega (arith, below))) (place-once ks i (once-rest k ks o) (omega (arith, below)))
+  where
+    by_cases : (bytes_eq (get_or ks i []) k ≡ true) ⊎ (bytes_eq (get_or ks i []) k ≡ false) → has_name (get_or ks i []) ks ≡ true → place_of (get_or ks i []) ks ≡ i → place_of (get_or ks i []) (k ∷ ks) ≡ suc i
+    by_cases (inl e) there rest =
+        let is : get_or ks i [] ≡ k = same (get_or ks i []) k e in
+        absurd (false≢true (sym (once-first k ks o) ∙ ap (λ n. has_name n ks) (sym is) ∙ there))
+    by_cases (inr e) there rest = rw (e, rest) (omega arith)

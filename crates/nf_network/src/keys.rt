@@ -54,6 +54,11 @@ impl ArcKeys {
         self.ends[i]
     }
 
+    /// The number of the last arc's tail, if there is an arc.
+    pub(crate) fn last_tail(&self) -> Option<usize> {
+        self.ends.last().map(|ends| ends.0)
+    }
+
     /// The name of an arc.
     pub(crate) fn name(&self, i: usize) -> &[u8]
         requires { i < length self.now }

@@ -1,5 +1,6 @@
 //! A row of NODEDATA: its node, and what it gives it.
-ghost use Rattle.std.specs.Prelude.{◌≡◌, ◌≤◌, ◌<◌, ◌++◌, ◌∷◌, [], None, length, get_or, MatchResult};
+ghost use Rattle.std.specs.Prelude.{◌≡◌, ◌≤◌, ◌<◌, ◌++◌, ◌∷◌, [], None, true, length, get_or, MatchResult};
+ghost use Rattle.nf_cells.specs.Names.{is_once};
 ghost use Rattle.nf_cells.specs.Values.{cell_now};
 ghost use Rattle.nf_roles.specs.First.{IsFaultOf, first_of};
 ghost use Rattle.nf_roles.specs.Roles.{HasColumnsBelow};
@@ -26,6 +27,7 @@ pub(crate) fn take_node_row(
     requires columns { HasColumnsBelow roles.now (length table.now.header) }
     requires row { row ≤ length table.now.rows }
     requires even { IsEven nodes.old }
+    requires once { is_once nodes.old.names ≡ true }
     ensures { MatchResult result
         (λ _. IsTaken nodes.old seen.old (node_row roles.now (get_or (table.now.header ∷ table.now.rows) row [])) nodes.new seen.new)
         (IsFaultOf (first_of (row_faults_now nodes.old seen.old (node_row roles.now (get_or (table.now.header ∷ table.now.rows) row []))))) }
@@ -43,7 +45,8 @@ pub(crate) fn take_node_row(
 
 // The number of the node that a row names.
 fn name_row(nodes: &mut Nodes, seen: &mut Names, cell: Cell<&[u8]>) -> Result<usize, CellFault>
-    requires { IsEven nodes.old }
+    requires even { IsEven nodes.old }
+    requires once { is_once nodes.old.names ≡ true }
     ensures { MatchResult result
         (λ i. (first_of (name_faults_now nodes.old.names seen.old (cell_now cell.entry)) ≡ None)
         × IsNamed Role.Node nodes.old (cell_now cell.entry) nodes.new i × (seen.new ≡ seen.old ++ said_of [] (cell_now cell.entry) ∷ []))
@@ -71,7 +74,7 @@ fn name_row(nodes: &mut Nodes, seen: &mut Names, cell: Cell<&[u8]>) -> Result<us
             kind: DataKind::RepeatedNode,
         });
     }
-    match nodes.name(Role::Node, cell) {
+    match nodes.name(Role::Node, cell, None) {
         Ok(number) => Ok(number),
         Err(fault) => Err(fault),
     }

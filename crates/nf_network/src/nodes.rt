@@ -1,7 +1,7 @@
 //! The nodes, each with what it was given.
-ghost use Rattle.std.specs.Prelude.{◌≡◌, ◌<◌, [], None, Some, length, get_or, MatchResult};
+ghost use Rattle.std.specs.Prelude.{◌≡◌, ◌<◌, [], None, Some, true, length, get_or, IfOk, OnOk, MatchResult};
 ghost use Rattle.nf_cells.specs.Values.{cell_now};
-ghost use Rattle.nf_cells.specs.Names.{number_of, place_of, has_name, with_name};
+ghost use Rattle.nf_cells.specs.Names.{number_of, place_of, is_once, with_name};
 ghost use Rattle.nf_roles.specs.First.{first_of, IsFaultOf};
 ghost use Rattle.nf_network.specs.Arcs.{said, same_supply};
 ghost use Rattle.nf_network.specs.Faults.{node_faults, gift_faults, is_other};
@@ -11,7 +11,7 @@ ghost use Rattle.nf_network.specs.Given.{IsEven, IsNamed, IsGiven};
 use nf_cells::{Cell, Names, Supply};
 use nf_roles::{CellFault, DataKind};
 use nf_stmt::Role;
-use std::alloc::Global;
+use std::alloc::{AllocError, Global};
 use std::marker::Model;
 
 const MOST_NODES: usize = 20_000;
@@ -47,6 +47,18 @@ fn same(a: Supply, b: Supply) -> bool
         (Supply::Amount(v), Supply::Amount(w)) => v.thousandths == w.thousandths,
         (Supply::OpenSupply, Supply::OpenSupply) | (Supply::OpenDemand, Supply::OpenDemand) => true,
         _ => false,
+    }
+}
+
+// The number of a name, which is added if it is new. A guess that is right spares the look-up.
+fn number_of(names: &mut Names, name: &[u8], guess: Option<usize>) -> Result<usize, AllocError>
+    requires { is_once names.old ≡ true }
+    ensures place { IfOk result (λ i. i ≡ place_of name.now names.old) }
+    ensures names { OnOk result (names.new ≡ with_name names.old name.now) }
+{
+    match guess {
+        Some(number) if number < names.len() && names.get(number) == name => Ok(number),
+        _ => names.number(name),
     }
 }
 
@@ -91,9 +103,16 @@ impl Nodes {
         self.given[number]
     }
 
-    /// The number of the node that a cell names, from 0. It is added if it is new.
-    pub fn name(&mut self, role: Role, cell: Cell<&[u8]>) -> Result<usize, CellFault>
-        requires { IsEven self.old }
+    /// The number of the node that a cell names, from 0. It is added if it is new. A guess of the number spares its
+    /// look-up where it is right.
+    pub fn name(
+        &mut self,
+        role: Role,
+        cell: Cell<&[u8]>,
+        guess: Option<usize>,
+    ) -> Result<usize, CellFault>
+        requires even { IsEven self.old }
+        requires once { is_once self.old.names ≡ true }
         ensures { MatchResult result (IsNamed role self.old (cell_now cell.entry) self.new)
             (IsFaultOf (first_of (node_faults role self.old.names (cell_now cell.entry)))) }
     {
@@ -109,7 +128,7 @@ impl Nodes {
                 kind: DataKind::ReservedName,
             });
         }
-        let Ok(number) = self.names.number(name) else {
+        let Ok(number) = number_of(&mut self.names, name, guess) else {
             return Err(no_memory(role));
         };
         if self.names.len() > MOST_NODES {

@@ -1,6 +1,7 @@
 //! A pass over the rows of ARCDATA.
-ghost use Rattle.std.specs.Prelude.{◌≡◌, ◌≤◌, ◌<◌, ◌+◌, ◌^◌, ◌⊎◌, ◌++◌, ◌∷◌, [], false, None, Some, length, take, get_or, IfErr, IfOk, OnOk, MatchResult};
+ghost use Rattle.std.specs.Prelude.{◌≡◌, ◌≤◌, ◌<◌, ◌+◌, ◌^◌, ◌⊎◌, ◌++◌, ◌∷◌, [], true, false, None, Some, length, take, get_or, IfErr, IfOk, OnOk, MatchResult};
 ghost use Rattle.nf_roles.specs.Roles.{HasColumnsBelow};
+ghost use Rattle.nf_cells.specs.Names.{is_once};
 ghost use Rattle.nf_cells.specs.Values.{cell_now};
 ghost use Rattle.nf_roles.specs.First.{first_of, fault_if, IsFaultOf};
 ghost use Rattle.nf_network.specs.Faults.{is_bad, arc_fault_at, first_arc_fault};
@@ -40,17 +41,22 @@ pub struct Arcs {
     pub figures: Vec<Figures>,
 }
 
-// The numbers of both ends.
-fn name_ends(nodes: &mut Nodes, row: &ArcRow<'_>) -> Result<(usize, usize), CellFault>
-    requires { IsEven nodes.old }
+// The numbers of both ends. Arcs mostly stand by their tails, so the tail is tried with that of the arc above.
+fn name_ends(
+    nodes: &mut Nodes,
+    row: &ArcRow<'_>,
+    above: Option<usize>,
+) -> Result<(usize, usize), CellFault>
+    requires even { IsEven nodes.old }
+    requires once { is_once nodes.old.names ≡ true }
     ensures { MatchResult result (λ e. EndsNamed nodes.old (arc_row_now row.now) nodes.new e.0 e.1)
         (IsFaultOf (first_of (ends_faults nodes.old.names (arc_row_now row.now)))) }
 {
-    let tail = match nodes.name(Role::TailNode, row.tail) {
+    let tail = match nodes.name(Role::TailNode, row.tail, above) {
         Ok(tail) => tail,
         Err(fault) => return Err(fault),
     };
-    match nodes.name(Role::HeadNode, row.head) {
+    match nodes.name(Role::HeadNode, row.head, None) {
         Ok(head) => Ok((tail, head)),
         Err(fault) => Err(fault),
     }
@@ -173,7 +179,7 @@ impl Arcs {
                 kind: DataKind::LimitPassed,
             });
         }
-        let (tail, head) = match name_ends(&mut self.nodes, &row) {
+        let (tail, head) = match name_ends(&mut self.nodes, &row, self.keys.last_tail()) {
             Ok(ends) => ends,
             Err(fault) => return Err(fault),
         };

@@ -7,7 +7,7 @@ use Rattle.nf_network.proofs.nodes.Nodes.name.Goals as goal
 
 pub returns-then-number-len : goal.returns-then-number-len
 returns-then-number-len c =
-    let even : length c.self.inside.given.items ≡ length c.self.inside.names = rw (← c.self.view_is) at c.requires.same_length in
+    let even : length c.self.inside.given.items ≡ length c.self.inside.names = rw (← c.self.view_is) at c.requires.even.same_length in
     let len = rw c.in-Ok.ensures.names at c.len.ensures in
     let small : length (with_name c.self.inside.names c.in-Is.name.now) ≤ most_nodes = omega (arith, len, c.if-len-gt-MOST_NODES.false) in
     let below : c.in-Ok.number < length c.self.inside.given.items = omega (arith, c.len-2.ensures, c.if-number-len.true) in
@@ -17,7 +17,7 @@ returns-then-number-len c =
 
 pub returns : goal.returns
 returns c =
-    let even : length c.self.inside.given.items ≡ length c.self.inside.names = rw (← c.self.view_is) at c.requires.same_length in
+    let even : length c.self.inside.given.items ≡ length c.self.inside.names = rw (← c.self.view_is) at c.requires.even.same_length in
     let len = rw c.in-Ok.ensures.names at c.len.ensures in
     let small : length (with_name c.self.inside.names c.in-Is.name.now) ≤ most_nodes = omega (arith, len, c.if-len-gt-MOST_NODES.false) in
     let below : length c.self.inside.given.items ≤ c.in-Ok.number = omega (arith, c.len-2.ensures, c.if-number-len.false) in
