@@ -36,3 +36,10 @@ returns c =
     let arcs = rw whole at c.in_ok-add_arcs.ensures in
     (rw (arcs, c.of-balance.ensures.balance) at c.in_ok-add_excess_arcs.ensures)
     ∙ made c.args.options.now (joined_below (length c.args.arcs.now.keys) (column_at c.args.options.now.maximize c.args.arcs.now.keys c.args.arcs.now.figures.items)) c.args.arcs.now.nodes.given
+
+pub add_arcs-requires-clause-of_arcs : goal.add_arcs-requires-clause-of_arcs
+add_arcs-requires-clause-of_arcs c =
+    let nodes = rw c.in_ok-builder.ensures at c.in_ok-add_nodes.ensures in
+    let whole = rw (nodes, c.of-balance.ensures.balance) at c.in_ok-add_excess.ensures in
+    let few : length c.args.arcs.now.nodes.given ≤ most_nodes = omega (arith, c.requires.even.same_length, c.requires.few_nodes) in
+    rw whole (excess-of c.args.options.now.maximize (balance_of c.args.options.now.thrunet c.args.arcs.now.nodes.given) c.args.arcs.now.nodes.given few)
