@@ -1,5 +1,5 @@
 /* What bench/network.py times, for ARCDATA alone and in plain C: with lists of the same kind as the program's, of nearly
- * the same size (a column takes 224 bytes, where the program's takes 256), without a proof and without most checks. It
+ * the same size (a column takes 176 bytes, where the program's takes 192), without a proof and without most checks. It
  * tells what such a problem takes of the machine itself.
  *
  *     network whole|tables
@@ -19,7 +19,6 @@ typedef struct { Frac value; uint32_t number; } Entry;
 typedef struct { const char *bytes; size_t length; } Cell;
 typedef struct { char bytes[24]; size_t length; } Name;
 typedef struct { size_t tail, head; } Arc;
-typedef struct { size_t start, end; } Span;
 typedef struct { int64_t cost, lower, upper; } Figures;
 typedef struct { int64_t numerator; uint32_t denominator, is_wide; } Number;
 typedef struct {
@@ -38,7 +37,7 @@ static int32_t *node_slots;
 static size_t node_count, names_length;
 static Arc *arcs;
 static char *names;
-static Span *spans;
+static size_t *name_ends;
 static Figures *figures;
 static Column *columns;
 
@@ -151,13 +150,13 @@ static void add_arc(size_t row, size_t tail, size_t head, Cell name)
 {
     arcs[row - 1] = (Arc){tail, head};
     memcpy(names + names_length, name.bytes, name.length);
-    spans[row - 1].start = names_length;
-    spans[row - 1].end = names_length += name.length;
+    name_ends[row - 1] = names_length += name.length;
 }
 
 static Cell name_of(size_t j)
 {
-    return (Cell){names + spans[j].start, spans[j].end - spans[j].start};
+    size_t start = j ? name_ends[j - 1] : 0;
+    return (Cell){names + start, name_ends[j] - start};
 }
 
 static int are_same(size_t i, size_t j)
@@ -212,7 +211,7 @@ static void read_arcs(void)
     node_slots = memset(memory(NODE_SLOTS * sizeof *node_slots), 0xff, NODE_SLOTS * sizeof *node_slots);
     arcs = memory(rows * sizeof *arcs);
     names = memory(rows * sizeof nodes->bytes);
-    spans = memory(rows * sizeof *spans);
+    name_ends = memory(rows * sizeof *name_ends);
     figures = memory(rows * sizeof *figures);
     for (size_t row = 1; row <= rows; row++) {
         size_t tail = number_of(name_cell(row, 0)), head = number_of(name_cell(row, 1));
@@ -227,12 +226,9 @@ static void read_arcs(void)
 /* The names are labels already; the cells of the ID column come behind them. */
 static size_t make_labels(void)
 {
-    Span *ids = memory(rows * sizeof *ids);
-    size_t length = 0;
-    for (size_t j = 0; j < rows; j++) {
-        ids[j].start = length;
-        ids[j].end = length += cell(j + 1, 6).length;
-    }
+    size_t *id_ends = memory(rows * sizeof *id_ends), length = 0;
+    for (size_t j = 0; j < rows; j++)
+        id_ends[j] = length += cell(j + 1, 6).length;
     return length + names_length;
 }
 

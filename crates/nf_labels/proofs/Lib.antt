@@ -1,1 +1,2 @@
+pub mod NodeFacts
 pub mod TextFacts

@@ -1,22 +1,22 @@
 -- What `Texts` keeps in its fields, and the texts that a clause sees of them.
 -- The contracts of the methods of `Texts` rest on it.
-use Rattle.std.specs.Prelude.{◌≤◌, ◌-◌, ℕ, List, length, map, take, drop}
-use Rattle.std.specs.List.{All}
-use Rattle.nf_labels.specs.declared.texts.Span.{Span}
+use Rattle.std.specs.Prelude.{◌≡◌, ◌≤◌, ◌-◌, ℕ, List, [], ◌∷◌, length, take, drop}
 use Rattle.nf_labels.specs.declared.texts.Texts.TheInside.{Inside}
 
--- The text of a span.
-abbrev pub text_at : List ℕ → Span → List ℕ
-text_at bytes s = take (s.end - s.start) (drop s.start bytes)
+-- The texts of the bytes from a place on, by where each ends: it begins where the one before it ends.
+abbrev pub texts_from : ℕ → List ℕ → List ℕ → List (List ℕ)
+texts_from start [] bytes = []
+texts_from start (e ∷ ends) bytes = take (e - start) (drop start bytes) ∷ texts_from e ends bytes
 
 -- The texts in the fields.
 abbrev pub texts_inside : Inside → List (List ℕ)
-texts_inside t = map (text_at t.bytes.items) t.spans.items
+texts_inside t = texts_from 0 t.ends.items t.bytes.items
 
--- A span is within so many bytes.
-abbrev pub IsWithin : ℕ → Span → Type 0
-IsWithin n s = (s.start ≤ s.end) × (s.end ≤ n)
+-- Texts that stand one behind another from a place on up to `last` have such ends.
+abbrev pub AreEnds : ℕ → List ℕ → ℕ → Type 0
+AreEnds start [] last = start ≡ last
+AreEnds start (e ∷ ends) last = (start ≤ e) × AreEnds e ends last
 
--- Each text is within the bytes.
-abbrev pub AreWithin : Inside → Type 0
-AreWithin t = All (IsWithin (length t.bytes.items)) t.spans.items
+-- The texts fill the bytes.
+abbrev pub FillTheBytes : Inside → Type 0
+FillTheBytes t = AreEnds 0 t.ends.items (length t.bytes.items)

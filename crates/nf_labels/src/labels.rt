@@ -6,13 +6,6 @@ use crate::texts::Texts;
 use std::alloc::{AllocError, Global};
 use std::marker::Model;
 
-/// The name of a node, and its supply as a text.
-#[derive(Drop)]
-struct NodeLabel {
-    name: Vec<u8>,
-    supdem: Vec<u8>,
-}
-
 /// The names of a problem's nodes, columns and constraints, the nodes' supplies as texts, and the ID columns of ARCDATA:
 /// their headers, and their cells for each arc of ARCDATA.
 ///
@@ -20,8 +13,8 @@ struct NodeLabel {
 /// memory, and the labels are then as they were. The other calls take no memory.
 #[derive(Drop)]
 pub struct Labels {
-    alloc: Global,
-    nodes: Vec<NodeLabel>,
+    nodes: Texts,
+    supdems: Texts,
     columns: Texts,
     own_arcs: u32,
     constraints: Texts,
@@ -46,8 +39,8 @@ impl Labels {
         ensures empty { result ≡ no_labels }
     {
         Labels {
-            alloc,
-            nodes: Vec::new(alloc),
+            nodes: Texts::new(alloc),
+            supdems: Texts::new(alloc),
             columns: Texts::new(alloc),
             own_arcs: 0,
             constraints: Texts::new(alloc),
@@ -61,8 +54,8 @@ impl Labels {
         ensures empty { IfOk result (λ l. l ≡ no_labels) }
     {
         Ok(Labels {
-            alloc,
-            nodes: Vec::new(alloc),
+            nodes: Texts::new(alloc),
+            supdems: Texts::new(alloc),
             columns: Texts::with_capacity(alloc, columns)?,
             own_arcs: 0,
             constraints: Texts::new(alloc),
@@ -77,12 +70,14 @@ impl Labels {
         ensures added { OnOk result (self.new ≡ record self.old { nodes = self.old.nodes ++ record { name = name.now; supdem = supdem.now } ∷ [] }) }
         ensures kept { IfErr result (λ _. self.new ≡ self.old) }
     {
-        let label = NodeLabel {
-            name: Vec::from_slice(self.alloc, name)?,
-            supdem: Vec::from_slice(self.alloc, supdem)?,
-        };
-        self.nodes.push(label)?;
-        Ok(())
+        self.nodes.push(name)?;
+        match self.supdems.push(supdem) {
+            Ok(()) => Ok(()),
+            Err(fault) => {
+                self.nodes.pop();
+                Err(fault)
+            }
+        }
     }
 
     /// Adds the column of an arc of ARCDATA, before all others.
@@ -141,7 +136,7 @@ impl Labels {
         requires number { (0 < i) × (i ≤ length self.now.nodes) }
         ensures name { result.now ≡ (get_or self.now.nodes (i - 1) no_node).name }
     {
-        &self.nodes[i as usize - 1].name
+        self.nodes.get(i as usize - 1)
     }
 
     /// The supply of a node as a text: an amount in lowest terms, which is negative for a demand, `.S` or `.D`.
@@ -149,7 +144,7 @@ impl Labels {
         requires number { (0 < i) × (i ≤ length self.now.nodes) }
         ensures text { result.now ≡ (get_or self.now.nodes (i - 1) no_node).supdem }
     {
-        &self.nodes[i as usize - 1].supdem
+        self.supdems.get(i as usize - 1)
     }
 
     /// The name of a column.

@@ -1,32 +1,34 @@
 //! Lists of texts.
-ghost use Rattle.std.specs.Prelude.{◌≡◌, ◌<◌, [], ◌∷◌, ◌++◌, length, get_or, IfErr, IfOk, OnOk};
+ghost use Rattle.std.specs.Prelude.{◌≡◌, ◌<◌, ◌≤◌, [], ◌∷◌, ◌++◌, ◌-◌, length, get_or, take, IfErr, IfOk, OnOk};
 
 use std::alloc::{AllocError, Global};
 use std::marker::Model;
 
-// Where a text begins and ends.
-#[derive(Clone, Copy)]
-struct Span {
-    start: usize,
-    end: usize,
+// Where text i begins, by where each ends.
+fn begin(ends: &[usize], i: usize) -> usize
+    requires { i ≤ length ends.now }
+    ensures { result ≡ get_or (0 ∷ ends.now) i 0 }
+{
+    if i == 0 { 0 } else { ends[i - 1] }
 }
 
 /// Texts, one behind another in one buffer, so that none has memory of its own. They are numbered from 0.
 #[derive(Drop)]
 pub(crate) struct Texts {
     bytes: Vec<u8>,
-    spans: Vec<Span>,
+    // Where each ends. It begins where the one before it ends.
+    ends: Vec<usize>,
 }
 
 impl Model for Texts {
     ghost use Rattle.std.specs.Prelude.{List, ℕ};
-    ghost use Rattle.nf_labels.specs.Texts.{AreWithin, texts_inside};
+    ghost use Rattle.nf_labels.specs.Texts.{FillTheBytes, texts_inside};
 
     ghost Value = { List (List ℕ) };
 
     ghost view = { texts_inside };
 
-    ghost invariant = { AreWithin };
+    ghost invariant = { FillTheBytes };
 }
 
 impl Texts {
@@ -35,7 +37,7 @@ impl Texts {
     {
         Texts {
             bytes: Vec::new(alloc),
-            spans: Vec::new(alloc),
+            ends: Vec::new(alloc),
         }
     }
 
@@ -45,14 +47,14 @@ impl Texts {
     {
         Ok(Texts {
             bytes: Vec::new(alloc),
-            spans: Vec::with_capacity(alloc, texts)?,
+            ends: Vec::with_capacity(alloc, texts)?,
         })
     }
 
     pub(crate) fn len(&self) -> usize
         ensures { result ≡ length self.now }
     {
-        self.spans.len()
+        self.ends.len()
     }
 
     /// Adds a text at the end. `AllocError` where there is no memory: the texts are as they were.
@@ -62,16 +64,28 @@ impl Texts {
     {
         let start = self.bytes.len();
         self.bytes.extend_from_slice(text)?;
-        let end = self.bytes.len();
-        self.spans.push(Span { start, end })?;
-        Ok(())
+        match self.ends.push(self.bytes.len()) {
+            Ok(()) => Ok(()),
+            Err(fault) => {
+                self.bytes.truncate(start);
+                Err(fault.into())
+            }
+        }
+    }
+
+    /// Takes the last text away, if there is one.
+    pub(crate) fn pop(&mut self)
+        ensures { self.new ≡ take (length self.old - 1) self.old }
+    {
+        self.ends.pop();
+        let end = begin(&self.ends, self.ends.len());
+        self.bytes.truncate(end);
     }
 
     pub(crate) fn get(&self, i: usize) -> &[u8]
         requires { i < length self.now }
         ensures { result.now ≡ get_or self.now i [] }
     {
-        let span = self.spans[i];
-        &self.bytes[span.start..span.end]
+        &self.bytes[begin(&self.ends, i)..self.ends[i]]
     }
 }
