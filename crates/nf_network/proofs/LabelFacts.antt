@@ -3,7 +3,7 @@ use Rattle.std.proofs.Common.{◌≡◌, ◌<◌, ◌+◌, ◌++◌, ℕ, Bool, 
 use Rattle.std.proofs.lemmas.List.{append-nil, map-append, take_more}
 use Rattle.std.proofs.lemmas.List.Concat.{flat_map-append}
 use Rattle.std.specs.List.{flat_map}
-use Rattle.nf_labels.specs.Labels.{LabelList}
+use Rattle.nf_labels.specs.Labels.{LabelList, NodeText, no_labels}
 use Rattle.nf_table.specs.Grid.{Cells}
 use Rattle.nf_cells.specs.Names.{Name}
 use Rattle.nf_cells.specs.declared.values.Supply.{Supply}
@@ -60,3 +60,17 @@ rows-more l b new ids rows i cells below is hb e =
     let joined : flat_map (cells_at ids) (take (i + 1) rows) ≡ flat_map (cells_at ids) (take i rows) ++ cells_at ids (get_or rows i []) =
     ap (flat_map (cells_at ids)) more ∙ flat_map-append (cells_at ids) (take i rows) (get_or rows i [] ∷ []) ∙ ap (λ x. flat_map (cells_at ids) (take i rows) ++ x) (append-nil (cells_at ids (get_or rows i []))) in
     rw joined (e ∙ rw (hb, is) refl)
+
+-- ---- all of them
+module _ (l n e a : LabelList) (arcs : List Name) (nodes more : List NodeText) (names : List Name)
+    (of-arcs : l ≡ record no_labels { columns = arcs; own_arcs = length arcs }) (of-nodes : n ≡ record l { nodes = nodes }) (of-excess : e ≡ record n { nodes = n.nodes ++ more }) (of-columns : a ≡ record e { columns = e.columns ++ names }) where
+  pub no-headers : a.id_headers ≡ []
+  no-headers = ap (λ x. x.id_headers) of-columns ∙ ap (λ x. x.id_headers) of-excess ∙ ap (λ x. x.id_headers) of-nodes ∙ ap (λ x. x.id_headers) of-arcs
+
+  module _ (h : LabelList) (headers : Cells) (of-headers : h ≡ record a { id_headers = headers }) where
+    pub no-ids : h.ids ≡ []
+    no-ids = ap (λ x. x.ids) of-headers ∙ ap (λ x. x.ids) of-columns ∙ ap (λ x. x.ids) of-excess ∙ ap (λ x. x.ids) of-nodes ∙ ap (λ x. x.ids) of-arcs
+
+    pub all-made : (d : LabelList) (ids : Cells) → d ≡ record h { ids = ids }
+        → d ≡ record { nodes = nodes ++ more; columns = arcs ++ names; own_arcs = length arcs; constraints = []; id_headers = headers; ids = ids }
+    all-made d ids of-ids = of-ids ∙ rw (of-headers, of-columns, of-excess, of-nodes, of-arcs) refl

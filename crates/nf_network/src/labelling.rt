@@ -33,14 +33,34 @@ pub(crate) fn make_labels(
     requires columns { HasColumnsBelow roles.now (length table.now.header) }
     ensures { IfOk result (λ l. l ≡ labels_of thrunet arcs.nodes.names arcs.nodes.given (joined_below (length arcs.keys) (name_at arcs.keys)) roles.now.ids table.now) }
 {
-    let balance = Balance::of(&arcs.nodes, thrunet);
     let mut labels = arcs.keys.into_labels();
-    label_nodes(&mut labels, &arcs.nodes)?;
-    label_excess(&mut labels, &arcs.nodes, balance)?;
-    label_excess_arcs(alloc, &mut labels, &arcs.nodes, balance)?;
-    label_id_headers(&mut labels, roles, table)?;
-    label_ids(&mut labels, roles, table)?;
+    label_all(alloc, &mut labels, &arcs.nodes, roles, table, thrunet)?;
     Ok(labels)
+}
+
+// Adds all labels to those of the arcs.
+fn label_all(
+    alloc: Global,
+    labels: &mut Labels,
+    nodes: &Nodes,
+    roles: &Roles,
+    table: &Table,
+    thrunet: bool,
+) -> Result<(), AllocError>
+    requires even { IsEven nodes.now }
+    requires few_nodes { length nodes.now.names ≤ most_nodes }
+    requires few_arcs { length labels.old.columns ≤ most_arcs }
+    requires columns { HasColumnsBelow roles.now (length table.now.header) }
+    requires of_arcs { labels.old ≡ record no_labels { columns = labels.old.columns; own_arcs = length labels.old.columns } }
+    ensures { OnOk result (labels.new ≡ labels_of thrunet nodes.now.names nodes.now.given labels.old.columns roles.now.ids table.now) }
+{
+    let balance = Balance::of(nodes, thrunet);
+    label_nodes(labels, nodes)?;
+    label_excess(labels, nodes, balance)?;
+    label_excess_arcs(alloc, labels, nodes, balance)?;
+    label_id_headers(labels, roles, table)?;
+    label_ids(labels, roles, table)?;
+    Ok(())
 }
 
 // Adds the nodes.

@@ -30,9 +30,12 @@ pub(crate) fn defaults_of(options: &ProcOptions) -> Defaults
 fn bound_or_infinite(bound: Option<OptionBound>) -> Bound
     ensures { result ≡ bound_or_infinite bound }
 {
+    let Some(bound) = bound else {
+        return Bound::Infinite;
+    };
     match bound {
-        Some(OptionBound::Finite(amount)) => Bound::Finite(amount),
-        Some(OptionBound::Infinite) | None => Bound::Infinite,
+        OptionBound::Finite(amount) => Bound::Finite(amount),
+        OptionBound::Infinite => Bound::Infinite,
     }
 }
 

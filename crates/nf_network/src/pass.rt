@@ -147,10 +147,12 @@ impl Arcs {
     fn with_room(alloc: Global, arcs: usize, ids: usize) -> Result<Arcs, AllocError>
         ensures { IfOk result (λ a. (a.nodes ≡ record { names = []; given = [] }) × (a.keys ≡ []) × (a.figures.items ≡ [])) }
     {
+        let keys = ArcKeys::with_room(alloc, arcs, ids)?;
+        let figures = Vec::with_capacity(alloc, arcs)?;
         Ok(Arcs {
             nodes: Nodes::new(alloc),
-            keys: ArcKeys::with_room(alloc, arcs, ids)?,
-            figures: Vec::with_capacity(alloc, arcs)?,
+            keys,
+            figures,
         })
     }
 
@@ -224,6 +226,43 @@ impl Arcs {
         }
         Ok(())
     }
+
+    // Takes all rows, or tells their first fault. Repeated arcs are looked for at the end, or where another fault ends the
+    // pass.
+    fn take_all(
+        &mut self,
+        alloc: Global,
+        roles: &Roles,
+        table: &Table,
+        defaults: &Defaults,
+    ) -> Result<(), RowFault>
+        requires below { HasColumnsBelow roles.now (length table.now.header) }
+        requires few { length table.now.rows < 2 ^ 32 }
+        requires empty { IsAfter defaults.now [] self.old.nodes self.old.keys self.old.figures.items }
+        ensures { MatchResult result
+            (λ _. (first_arc_fault defaults.now (arc_rows roles.now table.now.rows) ≡ None)
+            × IsAfter defaults.now (arc_rows roles.now table.now.rows) self.new.nodes self.new.keys self.new.figures.items)
+            (λ e. (e.fault.kind ≡ DataKind.NoMemory) ⊎ (first_arc_fault defaults.now (arc_rows roles.now table.now.rows) ≡ Some (e.row, e.fault))) }
+    {
+        let taken = self.take_rows(alloc, roles, table, defaults);
+        let Ok(repeat) = first_repeat(alloc, &self.keys) else {
+            return Err(RowFault {
+                row: 1,
+                fault: no_memory(Role::ArcName),
+            });
+        };
+        match (repeat, taken) {
+            (Some(j), _) => Err(RowFault {
+                row: j as u32 + 1,
+                fault: CellFault {
+                    role: Role::ArcName,
+                    kind: DataKind::RepeatedArc,
+                },
+            }),
+            (None, Err(fault)) => Err(fault),
+            (None, Ok(())) => Ok(()),
+        }
+    }
 }
 
 /// The arcs of ARCDATA, with the nodes that they name and what these are given; or the first fault.
@@ -250,22 +289,8 @@ pub fn read_arcs(
             fault: no_memory(Role::TailNode),
         });
     };
-    let taken = arcs.take_rows(alloc, roles, table, defaults);
-    let Ok(repeat) = first_repeat(alloc, &arcs.keys) else {
-        return Err(RowFault {
-            row: 1,
-            fault: no_memory(Role::ArcName),
-        });
-    };
-    match (repeat, taken) {
-        (Some(j), _) => Err(RowFault {
-            row: j as u32 + 1,
-            fault: CellFault {
-                role: Role::ArcName,
-                kind: DataKind::RepeatedArc,
-            },
-        }),
-        (None, Err(fault)) => Err(fault),
-        (None, Ok(())) => Ok(arcs),
+    match arcs.take_all(alloc, roles, table, defaults) {
+        Ok(()) => Ok(arcs),
+        Err(fault) => Err(fault),
     }
 }
