@@ -18,7 +18,7 @@ use Rattle.nf_roles.specs.Assigned.{roles_due}
 use Rattle.nf_roles.specs.Roles.{RoleColumns}
 use Rattle.nf_network.specs.Network.{Network, network_due, no_roles, no_table}
 use Rattle.nf_cons.specs.Due.{dense_due}
-use Rattle.nf_sparse.specs.SparseDue.{sparse_due}
+use Rattle.nf_cons_sparse.specs.SparseDue.{sparse_due}
 
 -- The bytes of the data sets that a program has.
 pub record Sets : Type 0 where

@@ -12,12 +12,12 @@ ghost use Rattle.netflow.specs.Steps.{IsPosed, IsStopOf, stop_of_data, stop_of_r
 
 use crate::refusal::{Refusal, Stop};
 use nf_cons::dense;
+use nf_cons_sparse::sparse;
 use nf_io::Text;
 use nf_labels::Labels;
 use nf_network::network;
 use nf_prob::{Problem, ProblemBuilder};
 use nf_roles::{DataFault, DataKind, RoleFault, Roles, SetKind, assign};
-use nf_sparse::sparse;
 use nf_stmt::{ProcOptions, Program, SetName};
 use nf_table::Table;
 use std::alloc::Global;

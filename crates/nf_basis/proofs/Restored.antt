@@ -8,8 +8,8 @@ use Rattle.nf_model.specs.Program.{LinearProgram, at, row}
 use Rattle.nf_model.specs.Problem.{IsProblem}
 use Rattle.nf_sums.specs.Terms.{PassesIn, Is}
 use Rattle.nf_sums.proofs.Laws.{wider}
-use Rattle.nf_dense.specs.Weights.{weight, GivesEntries}
-use Rattle.nf_dense.specs.Causes.{EntryTerms}
+use Rattle.nf_inverse.specs.Weights.{weight, GivesEntries}
+use Rattle.nf_inverse.specs.Causes.{EntryTerms}
 use Rattle.nf_simplex.specs.Place as model
 use Rattle.nf_simplex.specs.Place.{Place, Basic, count_basic, one_if_basic}
 use Rattle.nf_simplex.specs.Stage.{Stage}

@@ -6,7 +6,7 @@ ghost use Rattle.nf_model.specs.Program.{column, entry_at};
 ghost use Rattle.nf_prob.specs.Numbers.{IsNumber};
 ghost use Rattle.nf_prob.specs.Stored.{stored_entry};
 ghost use Rattle.nf_sums.specs.Terms.{PassesIn};
-ghost use Rattle.nf_dense.specs.Causes.{EntryTerms};
+ghost use Rattle.nf_inverse.specs.Causes.{EntryTerms};
 ghost use Rattle.nf_simplex.specs.Layout.{layout_of};
 ghost use Rattle.nf_simplex.specs.Columns.{col_lower, col_upper};
 ghost use Rattle.nf_simplex.specs.Columns as columns;
@@ -18,8 +18,8 @@ ghost use Rattle.nf_basis.specs.Kept.{IsBoundOf, IsPresent, IsStateOf, number};
 
 use crate::col::{Col, Phase, Place};
 use crate::state::State;
-use nf_dense::Inverse;
 use nf_frac::{Frac, Passed, Steps};
+use nf_inverse::Inverse;
 use nf_prob::{Entry, Problem, RowKind};
 use std::sync::ledger::Ledger;
 

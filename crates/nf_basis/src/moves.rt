@@ -14,8 +14,8 @@ use crate::col::{Col, Place};
 use crate::columns::{bound, weights_of};
 use crate::slots::column_in;
 use crate::state::State;
-use nf_dense::{Inverse, exchange_values, flip_values};
 use nf_frac::{Frac, Passed, Steps};
+use nf_inverse::{Inverse, exchange_values, flip_values};
 use nf_prob::Problem;
 use std::sync::ledger::Ledger;
 

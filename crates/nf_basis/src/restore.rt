@@ -3,7 +3,7 @@ ghost use Rattle.std.specs.Prelude.{◌≡◌, ◌≢◌, ℕ, suc, ◌+◌, ◌
 ghost use Rattle.nf_num.specs.Rational.{zero_ℚ};
 ghost use Rattle.nf_model.specs.Program.{at};
 ghost use Rattle.nf_prob.specs.Numbers.{IsNumber};
-ghost use Rattle.nf_dense.specs.Exchanged.{IsExchanged};
+ghost use Rattle.nf_inverse.specs.Exchanged.{IsExchanged};
 ghost use Rattle.nf_simplex.specs.Layout.{layout_of};
 ghost use Rattle.nf_simplex.specs.Columns.{all_columns, col_at};
 ghost use Rattle.nf_simplex.specs.Place as model;
@@ -24,8 +24,8 @@ use crate::row_rest::rest;
 use crate::slots::slot_of;
 use crate::state::State;
 use crate::weights::Weights;
-use nf_dense::Inverse;
 use nf_frac::{Frac, Passed, Steps};
+use nf_inverse::Inverse;
 use nf_prob::Problem;
 use nf_sums::is_zero;
 use std::alloc::{AllocError, Global};

@@ -30,8 +30,8 @@ use Rattle.nf_run.specs.Endings.{Ends, EndsPart, HasProof, IsDue, IsEndFault, la
 use Rattle.nf_run.specs.Steps.{At, HasListed, IsObeyFault, IsOpeningFault, KeepsProof, Obeys, WritesPart}
 use Rattle.nf_run.specs.Stops.{IsListing, ListsAll, ListsFront, ListsPart, StopsWith, is_standing}
 use Rattle.nf_run.specs.Verdicts.{Proves, TellsVerdict}
-use Rattle.nf_verdict.specs.Certificates.{IsValid}
-use Rattle.nf_verdict.proofs.Valid.{valid_lengths}
+use Rattle.nf_certify.specs.Certificates.{IsValid}
+use Rattle.nf_certify.proofs.Valid.{valid_lengths}
 
 -- ---- what was written
 pub appends_nothing : (o : Option (List ℕ)) → Appends o o []

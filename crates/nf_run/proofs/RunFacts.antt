@@ -19,11 +19,11 @@ use Rattle.nf_simplex.specs.StageOf.{StageNumber, StageOne, StageTwo, IsLast}
 use Rattle.nf_basis.specs.declared.col.Col.{Col}
 use Rattle.nf_prob.specs.declared.cert.Cert.{Cert}
 use Rattle.nf_prob.specs.declared.cert.Cert.TheVariants as cert
-use Rattle.nf_verdict.specs.declared.ended.Ended.{Ended as End}
-use Rattle.nf_verdict.specs.declared.ended.Ended.TheVariants as end
-use Rattle.nf_verdict.specs.declared.ended.CertOfFault.{CertOfFault}
-use Rattle.nf_verdict.specs.declared.ended.CertOfFault.TheVariants as certificate
-use Rattle.nf_verdict.specs.Certificates.{HasEndedSo, IsCertFault}
+use Rattle.nf_certify.specs.declared.ended.Ended.{Ended as End}
+use Rattle.nf_certify.specs.declared.ended.Ended.TheVariants as end
+use Rattle.nf_certify.specs.declared.ended.CertOfFault.{CertOfFault}
+use Rattle.nf_certify.specs.declared.ended.CertOfFault.TheVariants as certificate
+use Rattle.nf_certify.specs.Certificates.{HasEndedSo, IsCertFault}
 use Rattle.nf_run.specs.declared.line.HaltLine.{HaltLine}
 use Rattle.nf_run.specs.declared.line.HaltLine.TheVariants as line
 use Rattle.nf_run.specs.declared.event.RunFault.{RunFault}

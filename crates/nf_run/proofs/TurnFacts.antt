@@ -10,7 +10,7 @@ use Rattle.nf_program.specs.declared.program.SessionOptions.{SessionOptions}
 use Rattle.nf_engine.specs.declared.halt.Halt.{Halt}
 use Rattle.nf_engine.specs.Point.{Point}
 use Rattle.nf_engine.specs.Run.{PassesAt}
-use Rattle.nf_widen.specs.Starting.{IsSecondFaultOf}
+use Rattle.nf_stage_two.specs.Starting.{IsSecondFaultOf}
 use Rattle.nf_run.specs.declared.event.RunFault.{RunFault}
 use Rattle.nf_run.specs.declared.event.RunFault.TheVariants as fault
 use Rattle.nf_run.specs.declared.line.HaltLine.{HaltLine}

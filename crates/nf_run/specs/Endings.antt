@@ -11,7 +11,7 @@ use Rattle.nf_table.specs.Reading.{table_read}
 use Rattle.nf_table.specs.Writing.{table_text}
 use Rattle.nf_cert.specs.Reading.{cert_read}
 use Rattle.nf_cert.specs.Written.{cert_grid, cert_rows}
-use Rattle.nf_verdict.specs.declared.ended.Ended.{Ended}
+use Rattle.nf_certify.specs.declared.ended.Ended.{Ended}
 use Rattle.nf_run.specs.declared.event.RunFault.{RunFault}
 use Rattle.nf_run.specs.declared.event.RunFault.TheVariants as fault
 use Rattle.nf_run.specs.Runs.{Event}

@@ -23,9 +23,9 @@ use Rattle.nf_engine.specs.declared.halt.Halt.{Halt}
 use Rattle.nf_engine.specs.declared.halt.Halt.TheVariants.{Ended}
 use Rattle.nf_engine.specs.Point.{Point}
 use Rattle.nf_engine.specs.Steps.{HasEnded}
-use Rattle.nf_verdict.specs.declared.ended.Ended.{Ended as End}
-use Rattle.nf_verdict.specs.declared.ended.CertOfFault.{CertOfFault}
-use Rattle.nf_verdict.specs.declared.ended.CertOfFault.TheVariants as certificate
+use Rattle.nf_certify.specs.declared.ended.Ended.{Ended as End}
+use Rattle.nf_certify.specs.declared.ended.CertOfFault.{CertOfFault}
+use Rattle.nf_certify.specs.declared.ended.CertOfFault.TheVariants as certificate
 use Rattle.nf_run.specs.declared.event.RunFault.{RunFault}
 use Rattle.nf_run.specs.declared.event.RunFault.TheVariants as fault
 use Rattle.nf_run.specs.declared.line.HaltLine.{HaltLine}

@@ -17,9 +17,9 @@ use Rattle.nf_engine.specs.declared.halt.Moved.TheVariants as moved
 use Rattle.nf_engine.specs.Point.{Point}
 use Rattle.nf_engine.specs.Run.{IsPauseDue}
 use Rattle.nf_engine.specs.Steps.{Picks}
-use Rattle.nf_verdict.specs.declared.ended.Ended.{Ended as End}
-use Rattle.nf_verdict.specs.declared.ended.Ended.TheVariants as end
-use Rattle.nf_verdict.specs.Certificates.{HasEndedSo, IsCertOf}
+use Rattle.nf_certify.specs.declared.ended.Ended.{Ended as End}
+use Rattle.nf_certify.specs.declared.ended.Ended.TheVariants as end
+use Rattle.nf_certify.specs.Certificates.{HasEndedSo, IsCertOf}
 use Rattle.nf_run.specs.declared.line.HaltLine.{HaltLine}
 use Rattle.nf_run.specs.declared.line.HaltLine.TheVariants as line
 use Rattle.nf_run.specs.declared.setting.Setting.{Setting}

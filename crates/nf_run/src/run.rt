@@ -14,12 +14,12 @@ use crate::session::{Place, Session, StagePoint};
 use crate::setting::{Setting, setting_one, setting_two};
 use crate::stage::{line_of, run_stage};
 use nf_basis::{Basis, DenseBasis, StartFault};
+use nf_certify::CertOfFault;
 use nf_engine::{Halt, Moved};
 use nf_frac::Steps;
 use nf_prob::{Cert, Problem};
+use nf_stage_two::{start_two, widen};
 use nf_stmt::SessionOptions;
-use nf_verdict::CertOfFault;
-use nf_widen::{start_two, widen};
 use std::alloc::Global;
 use std::sync::ledger::Ledger;
 

@@ -1,8 +1,8 @@
 //! The run of one stage, and the line of its halt.
 ghost use Rattle.std.specs.Prelude.{◌≡◌, IfOk, IfErr};
 ghost use Rattle.nf_simplex.specs.Standing.{IsFeasibleState};
-ghost use Rattle.nf_verdict.specs.declared.ended.Ended.{Ended as End};
-ghost use Rattle.nf_verdict.specs.Certificates.{IsCertFault};
+ghost use Rattle.nf_certify.specs.declared.ended.Ended.{Ended as End};
+ghost use Rattle.nf_certify.specs.Certificates.{IsCertFault};
 ghost use Rattle.nf_run.specs.Steps.{IsHaltIn, IsStageFault, Shows, point_at};
 ghost use Rattle.nf_run.specs.Turns.{IsOver, Runs};
 ghost use Rattle.nf_run.specs.Verdicts.{MeansEnd};
@@ -13,10 +13,10 @@ use crate::session::StagePoint;
 use crate::setting::Setting;
 use crate::verdict::verdict;
 use nf_basis::Basis;
+use nf_certify::{CertOfFault, Ended};
 use nf_engine::{Engine, Halt, Moved};
 use nf_frac::Steps;
 use nf_prob::{Cert, Problem};
-use nf_verdict::{CertOfFault, Ended};
 use std::alloc::Global;
 use std::sync::ledger::Ledger;
 

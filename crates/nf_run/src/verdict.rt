@@ -4,14 +4,14 @@ ghost use Rattle.nf_sums.specs.Terms.{with_sign};
 ghost use Rattle.nf_simplex.specs.Standing.{IsFeasibleState};
 ghost use Rattle.nf_prob.specs.declared.cert.Checked.TheVariants as checked;
 ghost use Rattle.nf_prob.specs.Verdict.{IsAnswer};
-ghost use Rattle.nf_verdict.specs.Certificates.{HasEndedSo, IsCertFault};
+ghost use Rattle.nf_certify.specs.Certificates.{HasEndedSo, IsCertFault};
 ghost use Rattle.nf_run.specs.Verdicts.{IsVerdict, Proves};
 
 use crate::line::HaltLine;
 use nf_basis::Basis;
+use nf_certify::{CertOfFault, Ended, cert_of};
 use nf_frac::{Frac, Steps};
 use nf_prob::{Cert, Checked, Problem, verify};
-use nf_verdict::{CertOfFault, Ended, cert_of};
 use std::alloc::Global;
 use std::sync::ledger::Ledger;
 

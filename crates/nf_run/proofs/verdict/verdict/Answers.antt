@@ -1,7 +1,7 @@
 use Rattle.std.proofs.Common.{rules}
 use Rattle.nf_sums.specs.Terms.{PassesIn}
 use Rattle.nf_basis.specs.Arising.{StateTerms}
-use Rattle.nf_verdict.proofs.Arises.{checks_arise}
+use Rattle.nf_certify.proofs.Arises.{checks_arise}
 use Rattle.nf_run.proofs.verdict.verdict.Goals as goal
 
 pub returns-in_err-checked-clause-fault : goal.returns-in_err-checked-clause-fault

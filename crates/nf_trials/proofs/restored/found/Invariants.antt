@@ -1,4 +1,0 @@
-use Rattle.nf_trials.proofs.restored.found.Given as goal
-
-abbrev pub ghosts-restored : goal.ghosts-restored
-ghosts-restored a = record { name = a.blank.name; parts = a.blank.parts }

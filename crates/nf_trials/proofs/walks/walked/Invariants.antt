@@ -1,4 +1,0 @@
-use Rattle.nf_trials.proofs.walks.walked.Given as goal
-
-abbrev pub ghosts-goes : goal.ghosts-goes
-ghosts-goes a = record { name = a.blank.name; parts = a.blank.parts }

@@ -1,5 +1,0 @@
-use Rattle.nf_verdict.specs.Moving.{ArePut}
-use Rattle.nf_verdict.proofs.ray.put_basics.Given as goal
-
-abbrev pub invariant-loop-slot : goal.invariant-loop-slot
-invariant-loop-slot g l = ArePut l.p (g.B.Basis.slots l.basis) l.down l.entries l.fn.moves l.slot l.moves
