@@ -9,3 +9,5 @@ pub mod Mul
 pub mod Order
 pub mod Recip
 pub mod Caller
+pub mod Binary
+pub mod Short

@@ -1,7 +1,6 @@
 -- The steps of a product and of a negation, against their values.
 use Rattle.std.proofs.Common.{◌≡◌, ℕ, ◌*◌, ◌/◌, ◌<◌, ◌^◌, sym, ◌∙◌, ap, ap₂, subst, subst₂, ℤ, pos, ◌-ℤ◌, ◌*ℤ◌, neg_ℤ, unsigned_abs, int_div, lt_of_le_of_lt, div-le_self, div-one, lit<, mul-pos}
 use Rattle.std.specs.Int.RustNames.{FitsSigned}
-use Rattle.std.proofs.lemmas.Int.{to_z_pos}
 use lib.IntN.{+ℤ_idl}
 use mir.Syntax.{w128}
 use mir.Val.{to_z, of_z}
@@ -32,34 +31,43 @@ module _ (x y : ℚ) (n : ℤ) (m u s : ℕ) (px : AreParts (numer x) (denom x))
   in_range : InRange (int_div (numer x) (pos s))
   in_range = subst (λ (k : ℕ). k < 2 ^ 127) (sym (nat_abs-quotient (numer x) s)) (lt_of_le_of_lt (div-le_self (unsigned_abs (numer x)) s) px.num_in_range)
 
-  divided_is : int_div (to_z w128 (of_z w128 n)) (to_z w128 s) ≡ int_div (numer x) (pos s)
-  divided_is = ap₂ int_div read_is (to_z_pos w128 s shared_small)
+  pub read_in_range : InRange (to_z w128 (of_z w128 n))
+  read_in_range = subst InRange (sym read_is) px.num_in_range
 
-  pub divided_fits : FitsSigned w128 (int_div (to_z w128 (of_z w128 n)) (to_z w128 s))
-  divided_fits = fits (int_div (to_z w128 (of_z w128 n)) (to_z w128 s)) (subst InRange (sym divided_is) in_range)
+  -- v is the numerator divided
+  module _ (v : ℤ) (v_is : v ≡ int_div (to_z w128 (of_z w128 n)) (pos s)) where
+    pub rest_is : to_z w128 (of_z w128 v) ≡ int_div (numer x) (pos s)
+    rest_is = back_is v (int_div (numer x) (pos s)) in_range (v_is ∙ ap (λ (z : ℤ). int_div z (pos s)) read_is)
 
-  pub rest_is : to_z w128 (of_z w128 (int_div (to_z w128 (of_z w128 n)) (to_z w128 s))) ≡ int_div (numer x) (pos s)
-  rest_is = back_is (int_div (to_z w128 (of_z w128 n)) (to_z w128 s)) (int_div (numer x) (pos s)) in_range divided_is
+    pub rest_in_range : InRange (to_z w128 (of_z w128 v))
+    rest_in_range = subst InRange (sym rest_is) in_range
 
-  pub rest_in_range : InRange (to_z w128 (of_z w128 (int_div (to_z w128 (of_z w128 n)) (to_z w128 s))))
-  rest_in_range = subst InRange (sym rest_is) in_range
+  -- where the divisor is 1 the numerator stays as it is
+  module _ (one : s ≡ 1) where
+    pub shared_one : 1 ≡ gcd (unsigned_abs (numer x)) (denom y)
+    shared_one = sym one ∙ shared_is
+
+    pub kept_is : to_z w128 (of_z w128 n) ≡ int_div (numer x) (pos 1)
+    kept_is = read_is ∙ sym (quotient-one (numer x))
 
 -- ---- the product
 
--- the numbers of a product x * y as the code has them: a and c are what is left of the numerators, s and t what was taken out
-pub record At (x y : ℚ) (a c : ℤ) (b d s t : ℕ) : Type 0 where
+-- the numbers of a product x * y as the code has them: a and c are what is left of the numerators, s and t what was taken out, o and r what is left of the denominators
+pub record At (x y : ℚ) (a c : ℤ) (b d s t o r : ℕ) : Type 0 where
   pub s_is : s ≡ gcd (unsigned_abs (numer x)) (denom y)
   pub t_is : t ≡ gcd (unsigned_abs (numer y)) (denom x)
   pub a_is : a ≡ int_div (numer x) (pos (gcd (unsigned_abs (numer x)) (denom y)))
   pub c_is : c ≡ int_div (numer y) (pos (gcd (unsigned_abs (numer y)) (denom x)))
   pub b_is : b ≡ denom x
   pub d_is : d ≡ denom y
+  pub o_is : o ≡ b / t
+  pub r_is : r ≡ d / s
 
-pub at : (x y : ℚ) (a c : ℤ) (b d s t : ℕ) → s ≡ gcd (unsigned_abs (numer x)) (denom y) → a ≡ int_div (numer x) (pos s) → InRange a → t ≡ gcd (unsigned_abs (numer y)) (denom x) → c ≡ int_div (numer y) (pos t) → InRange c → b ≡ denom x → d ≡ denom y → At x y (to_z w128 (of_z w128 a)) (to_z w128 (of_z w128 c)) b d s t
-at x y a c b d s t es ea ra et ec rc eb ed =
-    record { s_is = es; t_is = et; a_is = back a ra ∙ ea ∙ ap (λ (k : ℕ). int_div (numer x) (pos k)) es; c_is = back c rc ∙ ec ∙ ap (λ (k : ℕ). int_div (numer y) (pos k)) et; b_is = eb; d_is = ed }
+pub at : (x y : ℚ) (a c : ℤ) (b d s t o r : ℕ) → s ≡ gcd (unsigned_abs (numer x)) (denom y) → a ≡ int_div (numer x) (pos s) → InRange a → t ≡ gcd (unsigned_abs (numer y)) (denom x) → c ≡ int_div (numer y) (pos t) → InRange c → b ≡ denom x → d ≡ denom y → o ≡ b / t → r ≡ d / s → At x y (to_z w128 (of_z w128 a)) (to_z w128 (of_z w128 c)) b d s t o r
+at x y a c b d s t o r es ea ra et ec rc eb ed eo er =
+    record { s_is = es; t_is = et; a_is = back a ra ∙ ea ∙ ap (λ (k : ℕ). int_div (numer x) (pos k)) es; c_is = back c rc ∙ ec ∙ ap (λ (k : ℕ). int_div (numer y) (pos k)) et; b_is = eb; d_is = ed; o_is = eo; r_is = er }
 
-module _ {x y : ℚ} {a c : ℤ} {b d s t : ℕ} (k : At x y a c b d s t) where
+module _ {x y : ℚ} {a c : ℤ} {b d s t o r : ℕ} (k : At x y a c b d s t o r) where
   abbrev g : ℕ
   g = gcd (unsigned_abs (numer x)) (denom y)
 
@@ -69,19 +77,19 @@ module _ {x y : ℚ} {a c : ℤ} {b d s t : ℕ} (k : At x y a c b d s t) where
   num_is : a *ℤ c ≡ int_div (numer x) (pos g) *ℤ int_div (numer y) (pos h)
   num_is = ap₂ ◌*ℤ◌ k.a_is k.c_is
 
-  den_is : b / t * (d / s) ≡ denom x / h * (denom y / g)
-  den_is = ap₂ (λ (i j : ℕ). i * j) (ap₂ (λ (i j : ℕ). i / j) k.b_is k.t_is) (ap₂ (λ (i j : ℕ). i / j) k.d_is k.s_is)
+  den_is : o * r ≡ denom x / h * (denom y / g)
+  den_is = ap₂ (λ (i j : ℕ). i * j) (k.o_is ∙ ap₂ (λ (i j : ℕ). i / j) k.b_is k.t_is) (k.r_is ∙ ap₂ (λ (i j : ℕ). i / j) k.d_is k.s_is)
 
   pub no_numerator : ¬ (InRange (a *ℤ c)) → ¬ (ProductFits x y)
   no_numerator n f = n (subst InRange (sym num_is) f.numerator)
 
-  pub no_denominator : ¬ (b / t * (d / s) < 2 ^ 127) → ¬ (ProductFits x y)
+  pub no_denominator : ¬ (o * r < 2 ^ 127) → ¬ (ProductFits x y)
   no_denominator n f = n (subst (λ (m : ℕ). m < 2 ^ 127) (sym den_is) f.denominator)
 
-  pub fits_both : InRange (a *ℤ c) → b / t * (d / s) < 2 ^ 127 → ProductFits x y
+  pub fits_both : InRange (a *ℤ c) → o * r < 2 ^ 127 → ProductFits x y
   fits_both p q = record { numerator = subst InRange num_is p; denominator = subst (λ (m : ℕ). m < 2 ^ 127) den_is q }
 
-  module _ (n : ℤ) (m : ℕ) (p : InRange (a *ℤ c)) (n_is : n ≡ a *ℤ c) (q : b / t * (d / s) < 2 ^ 127) (m_is : m ≡ b / t * (d / s)) where
+  module _ (n : ℤ) (m : ℕ) (p : InRange (a *ℤ c)) (n_is : n ≡ a *ℤ c) (q : o * r < 2 ^ 127) (m_is : m ≡ o * r) where
     read : to_z w128 (of_z w128 n) ≡ int_div (numer x) (pos g) *ℤ int_div (numer y) (pos h)
     read = back_is n (a *ℤ c) p n_is ∙ num_is
 

@@ -1,17 +1,16 @@
 -- Both parts of a fraction divided by their greatest common divisor.
-use Rattle.std.proofs.Common.{◌≡◌, ℕ, ◌/◌, ◌<◌, ◌≤◌, ◌^◌, sym, ◌∙◌, ap, ap₂, subst, ℤ, unsigned_abs, int_div, lt_of_le_of_lt, div-le_self, arith, lit<}
+use Rattle.std.proofs.Common.{◌≡◌, ℕ, ◌/◌, ◌<◌, ◌≤◌, ◌^◌, sym, ◌∙◌, ap, ap₂, subst, subst₂, ℤ, pos, unsigned_abs, int_div, lt_of_le_of_lt, div-le_self, arith, lit<}
 use Prim.Native.Nat.{◌∣◌}
-use Rattle.std.specs.Int.RustNames.{FitsSigned}
 use mir.Syntax.{w128}
-use mir.Val.{to_z, of_z}
 use Rattle.std.proofs.lemmas.Int.{to_z_pos}
+use mir.Val.{to_z, of_z}
 use Rattle.nf_num.specs.Gcd.{gcd}
 use Rattle.nf_num.specs.Rational.{frac, quotient_ℤ}
 use Rattle.nf_num.proofs.Gcd.{gcd_pos, gcd-dvd_left, gcd-dvd_right, gcd-div, gcd_bound}
 use Rattle.nf_num.proofs.Parts.{nat_abs-quotient}
 use Rattle.nf_num.proofs.Reduce.{frac-reduce, div_pos}
 use Rattle.nf_frac.specs.Range.{AreParts, InRange}
-use Rattle.nf_frac.proofs.Fields.{back, back_is, fits}
+use Rattle.nf_frac.proofs.Fields.{back, back_is}
 
 module _ (n : ℤ) (m s r u : ℕ) (hn : InRange n) (hm : m < 2 ^ 127) (pm : 0 < m) (ds : s ∣ m) (e : gcd (unsigned_abs n) m ≡ gcd (unsigned_abs n) s) (r_is : r ≡ gcd u s) (u_is : u ≡ unsigned_abs (to_z w128 (of_z w128 n))) where
   rest_is : r ≡ gcd (unsigned_abs n) m
@@ -19,6 +18,10 @@ module _ (n : ℤ) (m s r u : ℕ) (hn : InRange n) (hm : m < 2 ^ 127) (pm : 0 <
 
   pub rest_pos : 0 < r
   rest_pos = subst (λ (k : ℕ). 0 < k) (sym rest_is) (gcd_pos (unsigned_abs n) m pm)
+
+  -- where this is 1 there is nothing to divide
+  pub coprime : r ≡ 1 → AreParts n m
+  coprime o = record { num_in_range = hn; den_in_range = hm; positive = pm; lowest = sym rest_is ∙ o }
 
   pub rest_small : r < 2 ^ 127
   rest_small = subst (λ (k : ℕ). k < 2 ^ 127) (sym rest_is) (lt_of_le_of_lt (gcd_bound (unsigned_abs n) m pm) hm)
@@ -33,20 +36,22 @@ module _ (n : ℤ) (m s r u : ℕ) (hn : InRange n) (hm : m < 2 ^ 127) (pm : 0 <
         lowest = ap (λ (k : ℕ). gcd k (m / gcd (unsigned_abs n) m)) (nat_abs-quotient n (gcd (unsigned_abs n) m)) ∙ gcd-div (unsigned_abs n) m pm;
       })
 
-  quotient_read : to_z w128 (of_z w128 (int_div (to_z w128 (of_z w128 n)) (to_z w128 r))) ≡ quotient_ℤ n r
-  quotient_read = back_is (int_div (to_z w128 (of_z w128 n)) (to_z w128 r)) (quotient_ℤ n r) lowest.num_in_range (ap₂ int_div (back n hn) (to_z_pos w128 r rest_small))
+  pub read_in_range : InRange (to_z w128 (of_z w128 n))
+  read_in_range = subst InRange (sym (back n hn)) hn
 
-  pub quotient_fits : FitsSigned w128 (int_div (to_z w128 (of_z w128 n)) (to_z w128 r))
-  quotient_fits = fits (int_div (to_z w128 (of_z w128 n)) (to_z w128 r)) (subst InRange (sym (ap₂ int_div (back n hn) (to_z_pos w128 r rest_small))) lowest.num_in_range)
+  -- v is the numerator divided, and q the denominator
+  module _ (v : ℤ) (q : ℕ) (v_is : v ≡ int_div (to_z w128 (of_z w128 n)) (pos r)) (q_is : q ≡ m / r) where
+    read : to_z w128 (of_z w128 v) ≡ quotient_ℤ n r
+    read = back_is v (quotient_ℤ n r) lowest.num_in_range (v_is ∙ ap (λ (z : ℤ). int_div z (pos r)) (back n hn))
 
-  pub parts : AreParts (to_z w128 (of_z w128 (int_div (to_z w128 (of_z w128 n)) (to_z w128 r)))) (m / r)
-  parts = subst (λ (z : ℤ). AreParts z (m / r)) (sym quotient_read) lowest
+    pub parts : AreParts (to_z w128 (of_z w128 v)) q
+    parts = subst₂ AreParts (sym read) (sym q_is) lowest
 
-  pub value : frac (to_z w128 (of_z w128 (int_div (to_z w128 (of_z w128 n)) (to_z w128 r)))) (m / r) ≡ frac n m
-  value =
-      ap (λ (z : ℤ). frac z (m / r)) quotient_read
-      ∙ ap (λ (k : ℕ). frac (quotient_ℤ n k) (m / k)) rest_is
-      ∙ sym (frac-reduce n m (gcd (unsigned_abs n) m) pm (gcd-dvd_left (unsigned_abs n) m) (gcd-dvd_right (unsigned_abs n) m))
+    pub value : frac (to_z w128 (of_z w128 v)) q ≡ frac n m
+    value =
+        ap₂ frac read q_is
+        ∙ ap (λ (k : ℕ). frac (quotient_ℤ n k) (m / k)) rest_is
+        ∙ sym (frac-reduce n m (gcd (unsigned_abs n) m) pm (gcd-dvd_left (unsigned_abs n) m) (gcd-dvd_right (unsigned_abs n) m))
 
 pub prime : (k : ℕ) → gcd k 1 ≡ 1
 prime k = let p : 0 < gcd k 1 = gcd_pos k 1 (omega arith) in let q : gcd k 1 ≤ 1 = gcd_bound k 1 (omega arith) in omega arith

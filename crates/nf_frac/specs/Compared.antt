@@ -1,6 +1,6 @@
 -- What a comparison says of two numbers.
 -- The promises of `Frac::cmp` and of `==` rest on these words.
-use Rattle.std.specs.Prelude.{ℕ, ◌<◌, ◌≡◌, ◌==◌, ◌&&◌, Bool}
+use Rattle.std.specs.Prelude.{ℕ, ◌<◌, ℤ, ◌<ℤ◌, ◌≡◌, ◌==◌, ◌&&◌, Bool}
 use Rattle.std.specs.Ordering.{int_eq}
 use Rattle.std.specs.declared.cmp.Ordering.{Ordering}
 use Rattle.std.specs.declared.cmp.Ordering.TheVariants.{Less, Equal, Greater}
@@ -17,6 +17,12 @@ abbrev pub IsNatOrder : Ordering → ℕ → ℕ → Type 0
 IsNatOrder Less m n = m < n
 IsNatOrder Equal m n = m ≡ n
 IsNatOrder Greater m n = n < m
+
+-- An order of two whole numbers.
+abbrev pub IsIntOrder : Ordering → ℤ → ℤ → Type 0
+IsIntOrder Less m n = m <ℤ n
+IsIntOrder Equal m n = m ≡ n
+IsIntOrder Greater m n = n <ℤ m
 
 -- Whether two numbers are the same, by their parts.
 abbrev pub is_same : ℚ → ℚ → Bool

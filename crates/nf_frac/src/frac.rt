@@ -10,7 +10,9 @@ ghost use Rattle.nf_frac.specs.Range.{AreParts, CrossFits, InRange, Passes, SumF
 use crate::euclid::gcd;
 use crate::passed::{Op, Passed};
 use crate::steps::Steps;
-use crate::whole::{compare_products, cross, narrow_product, product, sum};
+use crate::whole::{
+    compare_products, compare_whole, cross, divided, narrow_product, product, quotient, sum,
+};
 use std::cmp::Ordering;
 use std::marker::Model;
 use std::sync::ledger::Ledger;
@@ -130,9 +132,12 @@ impl Frac {
             return Frac { num, den };
         }
         let rest = gcd(num.unsigned_abs(), shared);
+        if rest == 1 {
+            return Frac { num, den };
+        }
         Frac {
-            num: num / rest as i128,
-            den: den / rest,
+            num: divided(num, rest),
+            den: quotient(den, rest),
         }
     }
 
@@ -149,8 +154,9 @@ impl Frac {
             return Some(Frac::from_parts(num, 1));
         }
         let shared = gcd(b, d);
-        let num = cross(a, d / shared, c, b / shared)?;
-        let den = narrow_product(b / shared, d)?;
+        let over = quotient(b, shared);
+        let num = cross(a, quotient(d, shared), c, over)?;
+        let den = narrow_product(over, d)?;
         Some(Frac::reduced(num, den, shared))
     }
 
@@ -165,7 +171,10 @@ impl Frac {
         let (num, _) = self.parts();
         let (_, den) = right.parts();
         let shared = gcd(num.unsigned_abs(), den);
-        (num / shared as i128, shared)
+        if shared == 1 {
+            return (num, 1);
+        }
+        (divided(num, shared), shared)
     }
 
     // The product: each numerator gives up what it has in common with the other denominator, and nothing is left to
@@ -183,7 +192,7 @@ impl Frac {
         let (left, across) = self.without_common(right);
         let (other, over) = right.without_common(self);
         let num = product(left, other)?;
-        let den = narrow_product(b / over, d / across)?;
+        let den = narrow_product(quotient(b, over), quotient(d, across))?;
         Some(Frac::from_parts(num, den))
     }
 
@@ -280,6 +289,14 @@ impl Frac {
                 right,
             }),
         }
+    }
+
+    /// The order of the fraction and 0, by the sign of its numerator.
+    pub fn sign(self) -> Ordering
+        ensures { IsOrder result self zero_ℚ }
+    {
+        let (num, _) = self.parts();
+        compare_whole(num, 0)
     }
 
     /// The order of two fractions. It is exact and never passes: the products crosswise are taken with 256 bits.

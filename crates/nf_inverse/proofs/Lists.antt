@@ -1,5 +1,5 @@
 -- Lists that a loop changes place by place, and steps over numbers that are equal.
-use Rattle.std.proofs.Common.{◌≡◌, ◌≢◌, ℕ, List, ◌<◌, length, set, subst, subst₂, sym, ap, ◌∙◌, eq-eqb, ne_eqb}
+use Rattle.std.proofs.Common.{◌≡◌, ◌≢◌, ℕ, List, ◌<◌, length, set, subst, subst₂, sym, ap, ◌∙◌, eq-eqb, ne_eqb, ◌+◌, arith}
 use Rattle.std.specs.Prelude.{nat_eq, if◌then◌else◌}
 use native.Mathlib.Decide.{ℕ_discrete}
 use Rattle.nf_sums.proofs.Chosen.{kept, dropped}
@@ -16,6 +16,10 @@ adds_same t u a b f p e d s = subst₂ (λ x y. AddsProduct x y f p) e d s
 
 pub subtracts_same : (t u a b f : ℚ) (p : Passed) → t ≡ u → a ≡ b → SubtractsProduct t a f p → SubtractsProduct u b f p
 subtracts_same t u a b f p e d s = subst₂ (λ x y. SubtractsProduct x y f p) e d s
+
+-- what holds below a place and there holds below the next
+pub next_place : (P : ℕ → Type 0) (k : ℕ) → ((j : ℕ) → j < k → P j) → P k → (j : ℕ) → j < k + 1 → P j
+next_place P k below here j h = elim (ℕ_discrete j k) [ yes e ↦ subst P (sym e) here | no d ↦ below j (omega arith) ]
 
 pub at_set : (xs : List ℚ) (k : ℕ) (v : ℚ) → k < length xs → at (set xs k v) k ≡ v
 at_set xs k v h = get_or-set_same xs k v zero_ℚ h

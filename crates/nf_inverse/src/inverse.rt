@@ -10,7 +10,7 @@ ghost use Rattle.nf_inverse.specs.Weights.{GivesEntries, GivesSign, IsDiagonal, 
 
 use crate::rows::{add_multiple, cell, exchange_rows, put_cell, signed};
 use nf_frac::{Frac, Passed, Steps};
-use nf_sums::add_product;
+use nf_sums::{add_product, is_zero};
 use std::alloc::{AllocError, Global};
 use std::marker::Model;
 use std::sync::ledger::Ledger;
@@ -202,8 +202,15 @@ impl Inverse {
         ensures passed { IfErr result (AddsMultiple total.old (length total.old) (λ s. weight self.now s row) factor) }
         ensures cost { steps.new ≤ steps.old + 2 * length total.old }
     {
+        if is_zero(factor) {
+            return Ok(());
+        }
         for s in 0..self.size() {
-            total[s] = add_product(total[s], self.weight(s, row), factor, steps)?;
+            let weight = self.weight(s, row);
+            if is_zero(weight) {
+                continue;
+            }
+            total[s] = add_product(total[s], weight, factor, steps)?;
         }
         Ok(())
     }

@@ -27,6 +27,10 @@ pub(crate) fn add_multiple<L: Ledger>(
         return Ok(());
     }
     for k in 0..total.len() {
+        // Most weights are 0: such a place is neither read nor written.
+        if is_zero(a[k]) {
+            continue;
+        }
         total[k] = add_product(total[k], a[k], factor, steps)?;
     }
     Ok(())
@@ -48,6 +52,10 @@ pub(crate) fn sub_multiple<L: Ledger>(
         return Ok(());
     }
     for k in 0..total.len() {
+        // Most weights are 0: such a place is neither read nor written.
+        if is_zero(a[k]) {
+            continue;
+        }
         total[k] = sub_product(total[k], a[k], factor, steps)?;
     }
     Ok(())

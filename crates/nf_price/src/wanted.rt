@@ -130,7 +130,7 @@ fn wrong_size(place: Place, d: Frac) -> Option<Frac>
     ensures size { IfSome result (IsMagnitude d) }
     ensures right { IfNone result (HasWrongSign (place_of place) d → ⊥) }
 {
-    let sign = d.cmp(Frac::zero());
+    let sign = d.sign();
     match place {
         Place::Lower => match sign {
             Ordering::Less => Some(d.neg()),

@@ -78,7 +78,7 @@ fn stands_at(bound: Option<Frac>, v: Frac) -> bool
 pub(crate) fn cost_fits(d: Frac, lower: Option<Frac>, upper: Option<Frac>, v: Frac) -> bool
     ensures { IsTrue result ↔ IsSignedByBounds d lower upper v }
 {
-    match d.cmp(Frac::zero()) {
+    match d.sign() {
         Ordering::Less => stands_at(upper, v),
         Ordering::Equal => true,
         Ordering::Greater => stands_at(lower, v),
@@ -109,7 +109,7 @@ pub(crate) fn dual_fits(kind: RowKind, sum: Frac, right: Frac, y: Frac) -> bool
 pub(crate) fn place_of_greatest(lower: Option<Frac>, upper: Option<Frac>, w: Frac) -> Option<Frac>
     ensures { MatchOption result (IsBounded lower upper w → ⊥) (λ place. IsBounded lower upper w × (place ≡ highest lower upper w)) }
 {
-    match w.cmp(Frac::zero()) {
+    match w.sign() {
         Ordering::Less => lower,
         Ordering::Equal => Some(Frac::zero()),
         Ordering::Greater => upper,
@@ -129,7 +129,7 @@ fn is_missing(bound: Option<Frac>) -> bool
 pub(crate) fn is_unstopped(d: Frac, lower: Option<Frac>, upper: Option<Frac>) -> bool
     ensures { IsTrue result ↔ IsUnstopped d lower upper }
 {
-    match d.cmp(Frac::zero()) {
+    match d.sign() {
         Ordering::Less => is_missing(lower),
         Ordering::Equal => true,
         Ordering::Greater => is_missing(upper),

@@ -3,3 +3,4 @@ pub mod Part
 pub mod Laws
 pub mod Up
 pub mod Zero
+pub mod Unit

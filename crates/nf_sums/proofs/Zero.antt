@@ -4,19 +4,14 @@ use Rattle.std.specs.Prelude.{nat_eq}
 use Rattle.std.proofs.lemmas.Int.{to_z_pos}
 use mir.Syntax.{w128}
 use mir.Val.{to_z, of_z}
-use Rattle.nf_num.specs.Rational.{ℚ, numer, of_ℤ, zero_ℚ, ◌+ℚ◌, ◌-ℚ◌, ◌*ℚ◌, neg_ℚ}
+use Rattle.nf_num.specs.Rational.{ℚ, numer, zero_ℚ, ◌+ℚ◌, ◌-ℚ◌, ◌*ℚ◌, neg_ℚ}
 use Rattle.nf_num.proofs.Laws.{zero_mul, mul_comm, zero_of_numer}
 use Rattle.nf_num.proofs.Rewrites.{add_zero}
 use Rattle.nf_num.proofs.Field.{ring, codes}
-use Rattle.nf_num.specs.Gcd.{gcd, gcd_in}
-use Rattle.nf_num.proofs.Parts.{numer-frac}
 use Rattle.nf_frac.specs.Range.{InRange}
 use Rattle.nf_frac.proofs.Fields.{back}
+use Rattle.nf_frac.proofs.Order.{numer-zero}
 use Rattle.nf_sums.proofs.Chosen.{eq_of_test}
-
-numer-zero : numer zero_ℚ ≡ pos 0
-unfolding of_ℤ gcd gcd_in
-numer-zero = numer-frac (pos 0) 1 (omega arith) refl
 
 -- the test of a stored numerator
 pub zero_test : (n : ℤ) (x : ℚ) → n ≡ numer x → InRange (numer x) → IsTrue (nat_eq (of_z w128 n) 0) ↔ (x ≡ zero_ℚ)
@@ -34,7 +29,7 @@ zero_left t a b h = sym (ap (λ z. t +ℚ z *ℚ b) h ∙ ap (λ z. t +ℚ z) (z
 pub zero_right : (t a b : ℚ) → b ≡ zero_ℚ → t ≡ t +ℚ a *ℚ b
 zero_right t a b h = zero_left t b a h ∙ ap (λ z. t +ℚ z) (mul_comm b a)
 
-neg-zero : neg_ℚ zero_ℚ ≡ zero_ℚ
+pub neg-zero : neg_ℚ zero_ℚ ≡ zero_ℚ
 neg-zero = ring [] (search codes) refl
 
 pub zero_left_less : (t a b : ℚ) → a ≡ zero_ℚ → t ≡ t -ℚ a *ℚ b

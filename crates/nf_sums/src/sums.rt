@@ -1,12 +1,13 @@
 // Sums of products and of numbers, term by term in the order of the numbers.
 ghost use Rattle.std.specs.Prelude.{◌≡◌, ◌↔◌, ℕ, ◌+◌, ◌*◌, ◌<◌, ◌≤◌, IfOk, IfErr, IsTrue};
-ghost use Rattle.nf_num.specs.Rational.{ℚ, zero_ℚ, ◌+ℚ◌, ◌-ℚ◌, ◌*ℚ◌};
+ghost use Rattle.nf_num.specs.Rational.{ℚ, zero_ℚ, one_ℚ, ◌+ℚ◌, ◌-ℚ◌, ◌*ℚ◌, neg_ℚ};
 ghost use Rattle.nf_num.specs.Sum.{sum_ℚ};
+ghost use Rattle.nf_frac.specs.Range.{Passes};
 ghost use Rattle.nf_sums.specs.Rows.{number_terms, product_terms, remainder_terms};
 ghost use Rattle.nf_sums.specs.Steps.{AddsProduct, Gives, GivesNumber, SubtractsProduct};
 ghost use Rattle.nf_sums.specs.Terms.{PassesIn, Is};
 
-use nf_frac::{Frac, Passed, Steps};
+use nf_frac::{Frac, Op, Passed, Steps};
 use std::sync::ledger::Ledger;
 
 /// Whether a number is 0.
@@ -16,7 +17,76 @@ pub fn is_zero(a: Frac) -> bool
     a.num() == 0
 }
 
-/// `total + a * b`. A product of 0 takes no step; any other takes one for the product and one for the sum.
+// Whether a number is 1.
+fn is_one(a: Frac) -> bool
+    ensures { IsTrue result → (a ≡ one_ℚ) }
+{
+    a == Frac::from_whole(1)
+}
+
+// Whether a number is -1.
+fn is_minus_one(a: Frac) -> bool
+    ensures { IsTrue result → (a ≡ neg_ℚ one_ℚ) }
+{
+    a == Frac::from_whole(-1)
+}
+
+// `a * b`. Most entries of a network are 1 or -1: a product by one of these takes no step.
+fn product<L: Ledger>(a: Frac, b: Frac, steps: &mut Steps<L>) -> Result<Frac, Passed>
+    ensures value { IfOk result (λ r. r ≡ a *ℚ b) }
+    ensures passed { IfErr result (λ p. (p ≡ record { op = Op.Mul; left = a; right = b }) × Passes Op.Mul a b) }
+    ensures cost { steps.new ≤ steps.old + 1 }
+{
+    if is_one(a) {
+        return Ok(b);
+    }
+    if is_minus_one(a) {
+        return Ok(b.neg());
+    }
+    if is_one(b) {
+        return Ok(a);
+    }
+    if is_minus_one(b) {
+        return Ok(a.neg());
+    }
+    let product = a.mul(b, steps)?;
+    Ok(product)
+}
+
+// `total + a`. What is added to 0 takes no step.
+fn sum<L: Ledger>(total: Frac, a: Frac, steps: &mut Steps<L>) -> Result<Frac, Passed>
+    ensures value { IfOk result (λ r. r ≡ total +ℚ a) }
+    ensures passed { IfErr result (λ p. (p ≡ record { op = Op.Add; left = total; right = a }) × Passes Op.Add total a) }
+    ensures cost { steps.new ≤ steps.old + 1 }
+{
+    if is_zero(total) {
+        return Ok(a);
+    }
+    if is_zero(a) {
+        return Ok(total);
+    }
+    let sum = total.add(a, steps)?;
+    Ok(sum)
+}
+
+// `total - a`. What is taken from 0 takes no step, nor does 0.
+fn difference<L: Ledger>(total: Frac, a: Frac, steps: &mut Steps<L>) -> Result<Frac, Passed>
+    ensures value { IfOk result (λ r. r ≡ total -ℚ a) }
+    ensures passed { IfErr result (λ p. (p ≡ record { op = Op.Sub; left = total; right = a }) × Passes Op.Sub total a) }
+    ensures cost { steps.new ≤ steps.old + 1 }
+{
+    if is_zero(total) {
+        return Ok(a.neg());
+    }
+    if is_zero(a) {
+        return Ok(total);
+    }
+    let difference = total.sub(a, steps)?;
+    Ok(difference)
+}
+
+/// `total + a * b`. A product of 0 takes no step; any other takes at most one for the product and one for the sum, and
+/// none for a product by 1 or -1, nor for a sum with 0.
 ///
 /// `Passed` only where the product or the sum passes 128 bits, with its two operands.
 pub fn add_product<L: Ledger>(
@@ -33,11 +103,12 @@ pub fn add_product<L: Ledger>(
     if is_zero(a) || is_zero(b) {
         return Ok(total);
     }
-    let product = a.mul(b, steps)?;
-    total.add(product, steps)
+    let product = product(a, b, steps)?;
+    sum(total, product, steps)
 }
 
-/// `total - a * b`. A product of 0 takes no step; any other takes one for the product and one for the difference.
+/// `total - a * b`. A product of 0 takes no step; any other takes at most one for the product and one for the
+/// difference, and none for a product by 1 or -1, nor for a difference with 0.
 ///
 /// `Passed` only where the product or the difference passes 128 bits, with its two operands.
 pub fn sub_product<L: Ledger>(
@@ -53,8 +124,8 @@ pub fn sub_product<L: Ledger>(
     if is_zero(a) || is_zero(b) {
         return Ok(total);
     }
-    let product = a.mul(b, steps)?;
-    total.sub(product, steps)
+    let product = product(a, b, steps)?;
+    difference(total, product, steps)
 }
 
 /// The sum of the products of the pairs that `factors` gives at each number below `count`, in at most
@@ -95,7 +166,7 @@ pub fn sub_products<F: Fn(usize) -> (Frac, Frac), L: Ledger>(
     ensures cost { steps.new ≤ steps.old + 2 * count + 1 }
 {
     let total = sum_products(count, factors, steps)?;
-    let rest = first.sub(total, steps)?;
+    let rest = difference(first, total, steps)?;
     Ok(rest)
 }
 
@@ -115,7 +186,7 @@ pub fn sum_numbers<F: Fn(usize) -> Frac, L: Ledger>(
     let mut total = Frac::zero();
     for k in 0..count {
         let a = number(k);
-        total = total.add(a, steps)?;
+        total = sum(total, a, steps)?;
     }
     Ok(total)
 }

@@ -19,6 +19,6 @@ pub loop-k-preserved : goal.loop-k-preserved
 loop-k-preserved g c = record {
   total = λ a h.
       let here = h c.loop-k.k c.number-a.result c.loop-k-test.true c.number-a.ensures in
-      c.in_ok-total.ensures.value.1 ∙ ap₂ ◌+ℚ◌ (c.loop-k.invariant.total a h) here ∙ sym (sum_more _ _);
-  cost = omega (arith, c.loop-k.invariant.cost, c.add.ensures.cost);
+      c.in_ok-total.ensures.value ∙ ap₂ ◌+ℚ◌ (c.loop-k.invariant.total a h) here ∙ sym (sum_more _ _);
+  cost = omega (arith, c.loop-k.invariant.cost, c.sum.ensures.cost);
 }
