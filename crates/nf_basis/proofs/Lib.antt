@@ -4,15 +4,15 @@ pub mod Rests
 mod Entered
 pub mod Inverse
 pub mod Spread
-mod Pivoted
-mod Arisen
-mod Flipped
-mod Started
-mod Keeping
+pub mod Pivoted
+pub mod Arisen
+pub mod Flipped
+pub mod Started
+pub mod Keeping
 mod Loaded
 pub mod Wanted
 mod LoadStart
-mod LoadEnd
+pub mod LoadEnd
 pub mod RestNumbers
 mod Restored
 pub mod FirstLoad

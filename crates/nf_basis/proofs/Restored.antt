@@ -210,7 +210,7 @@ module _ (p : LinearProgram) (s : Standing) (ok : IsProblem p) (slots : List Col
     numbers j l = bound_or_zero (IsRestNumber p s j) (place_at s j) ((stage_of p s).lower j) ((stage_of p s).upper j) (λ x b. at_bound x b) (zero_number p s found are_found j)
 
     pub rest_arises : (i : ℕ) → i < rows_of p s → (c : Passed) → PassesIn (Is (rest_row p (bound_at p s) i)) c → PassesIn (LoadTerms p s) c
-    rest_arises i l c x = in_load c (wider (Is (rest_row p (bound_at p s) i)) (StateTerms p s) c (λ row e. subst (StateTerms p s) (sym e) (rest_term i (bound_at p s) (let a = few_rows in omega arith) numbers)) x)
+    rest_arises i l c x = in_load c (wider (Is (rest_row p (bound_at p s) i)) (StateTerms p s) c (λ row e. subst (StateTerms p s) (sym e) (rest_term i (bound_at p s) l numbers)) x)
 
     module _ (rests : List ℚ) (are_rests : (i : ℕ) → i < rows_of p s → at rests i ≡ rest_at p (bound_at p s) i) where
       pub values_arise : (c : Passed) → PassesIn (EntryTerms w (at rests)) c → PassesIn (LoadTerms p s) c

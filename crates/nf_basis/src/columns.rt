@@ -24,7 +24,7 @@ use nf_prob::{Entry, Problem, RowKind};
 use std::sync::ledger::Ledger;
 
 /// The number at which a column stands at a bound.
-pub(crate) fn bound(p: &Problem, state: &State, col: Col, place: Place) -> Frac
+pub fn bound(p: &Problem, state: &State, col: Col, place: Place) -> Frac
     requires state { IsStateOf p.now state.now }
     requires present { IsPresent p.now state.now.standing col }
     requires bound { IsBoundOf p.now col (place_of place) }
@@ -43,7 +43,7 @@ pub(crate) fn bound(p: &Problem, state: &State, col: Col, place: Place) -> Frac
 }
 
 /// The cost of a column in a phase.
-pub(crate) fn cost(p: &Problem, state: &State, col: Col, phase: Phase) -> Frac
+pub fn cost(p: &Problem, state: &State, col: Col, phase: Phase) -> Frac
     requires state { IsStateOf p.now state.now }
     requires present { IsPresent p.now state.now.standing col }
     ensures { result ≡ costs_of p.now (phase_of phase) (number p.now col) }

@@ -32,8 +32,8 @@ pub struct DenseBasis {
     work: Vec<Frac>,
 }
 
-// The value of a column that stands in a slot.
-fn value_in_slot(slots: &[Col], values: &[Frac], col: Col) -> Frac
+/// The value of a column that stands in a slot.
+pub fn value_in_slot(slots: &[Col], values: &[Frac], col: Col) -> Frac
     requires places { length values.now ≡ length slots.now }
     ensures { (k : ℕ) → k < length slots.now → in_slot slots.now k ≡ col → (i : ℕ) × (i < length slots.now) × (in_slot slots.now i ≡ col) × (result ≡ at values.now i) }
 {

@@ -15,8 +15,12 @@ mod weights;
 
 pub use basis::{Basis, RestoreFault};
 pub use col::{Col, Phase, Place};
-pub use dense::DenseBasis;
+pub use columns::{bound, cost};
+pub use dense::{DenseBasis, value_in_slot};
+pub use moves::{goes_down, other_bound};
+pub use restore::{Load, load_basis, number_at, stage_rows};
 pub use row_rest::rest;
+pub use slots::slot_of;
 pub use start::{StartFault, is_below_zero, start_one};
 pub use state::State;
 pub use weights::Weights;

@@ -20,7 +20,7 @@ use nf_prob::Problem;
 use std::sync::ledger::Ledger;
 
 /// The other of two bounds; other places stay.
-pub(crate) fn other_bound(place: Place) -> Place
+pub fn other_bound(place: Place) -> Place
     ensures { place_of result ≡ changes.other_bound (place_of place) }
 {
     match place {
@@ -66,8 +66,8 @@ pub(crate) fn exchange<L: Ledger>(
     Ok(())
 }
 
-// Whether a column that leaves this bound for the other one falls.
-fn goes_down(place: Place) -> bool
+/// Whether a column that leaves this bound for the other one falls.
+pub fn goes_down(place: Place) -> bool
     ensures { result ≡ model.goes_down (place_of place) }
 {
     match place {

@@ -55,12 +55,12 @@ impl From<Passed> for RestoreFault {
 
 /// A basis on the way from the artificials to a state's basic columns.
 #[derive(Drop)]
-pub(crate) struct Load {
-    pub(crate) slots: Vec<Col>,
+pub struct Load {
+    pub slots: Vec<Col>,
     // Whether a slot has a wanted column.
-    pub(crate) taken: Vec<bool>,
-    pub(crate) inverse: Inverse,
-    pub(crate) work: Vec<Frac>,
+    pub taken: Vec<bool>,
+    pub inverse: Inverse,
+    pub work: Vec<Frac>,
 }
 
 // The column with a number, from 0.
@@ -81,7 +81,7 @@ fn column_at(p: &Problem, at: usize) -> Col
 }
 
 /// How many rows the stage of a state has.
-pub(crate) fn stage_rows(p: &Problem, state: &State) -> u32
+pub fn stage_rows(p: &Problem, state: &State) -> u32
     ensures rows { result ≡ rows_of p.now state.now.standing }
     ensures few { result ≤ 2 ^ 30 }
 {
@@ -335,8 +335,8 @@ impl Load {
     }
 }
 
-// The number at which a given column stands, and 0 where it is basic or absent.
-fn number_at(p: &Problem, state: &State, j: u32) -> Frac
+/// The number at which a given column stands, and 0 where it is basic or absent.
+pub fn number_at(p: &Problem, state: &State, j: u32) -> Frac
     requires state { IsStateOf p.now state.now }
     requires column { IsNumber j (length p.now.columns) }
     ensures { result ≡ bound_at p.now state.now.standing (j - 1) }
@@ -356,7 +356,7 @@ fn number_at(p: &Problem, state: &State, j: u32) -> Frac
 ///
 /// `Dependent` exactly where the basic columns are dependent; `Passed` only at an operation of one of the bases that are
 /// made of wanted basic columns and artificials.
-pub(crate) fn load_basis<L: Ledger>(
+pub fn load_basis<L: Ledger>(
     alloc: Global,
     p: &Problem,
     state: &State,

@@ -30,7 +30,7 @@ use Rattle.nf_simplex.specs.Numbers.{reduced}
 use Rattle.nf_simplex.specs.StageOf.{StageNumber, StageOne, StageTwo, IsLast, rows_in}
 use Rattle.nf_simplex.specs.Step.{signed}
 use Rattle.nf_simplex.specs.Ends.{printed}
-use Rattle.nf_simplex.specs.Standing.{Standing, PhaseOne, PhaseTwo, is_negative, place_at, rows_of, stage_of, AreDualsOf, IsFeasibleState}
+use Rattle.nf_simplex.specs.Standing.{Standing, PhaseOne, PhaseTwo, is_negative, place_at, rows_of, stage_of, HasColumn, AreDualsOf, IsFeasibleState}
 use Rattle.nf_simplex.specs.Moves.{HasEndedOptimalIn, Prices}
 use Rattle.nf_simplex.specs.Verdicts.{AreGivenValues, ArePrintedDuals, AreFarkasDuals, AreMoves, move_of}
 use Rattle.nf_simplex.proofs.Orders.{yes_less, not_less, less_or_not}
@@ -39,10 +39,9 @@ use Rattle.nf_simplex.proofs.Same.{factor_same, reduced_same}
 use Rattle.nf_simplex.proofs.StageOf.{column_given}
 use Rattle.nf_simplex.proofs.Standings.{duals_are_unique}
 use Rattle.nf_simplex.proofs.Values.{all_rows}
-use Rattle.nf_basis.specs.Arising.{StateTerms, ArePrinted, AreRestNumbers, IsBoundAt, IsRay, rest_row}
+use Rattle.nf_basis.specs.Arising.{StateTerms, count_columns, ArePrinted, AreStanding, IsBoundAt, IsRay, rest_row}
 use Rattle.nf_basis.specs.Arising.ArePricing.{of_phase, of_print}
-use Rattle.nf_basis.specs.Arising.IsRestNumber.{value as number_of_value}
-use Rattle.nf_basis.specs.Arising.StateTerms.{rest as state_rest, reduced_cost as state_reduced_cost, cost as state_cost, gap as state_gap, ray_row as state_ray_row, rate as state_rate}
+use Rattle.nf_basis.specs.Arising.StateTerms.{standing_rest as state_rest, reduced_cost as state_reduced_cost, cost as state_cost, gap as state_gap, ray_row as state_ray_row, rate as state_rate}
 use Rattle.nf_basis.specs.Kept.{place_in}
 use Rattle.nf_basis.specs.Names.{col_of}
 use Rattle.nf_duals.proofs.Trailing.{sum_cut, trailing}
@@ -99,11 +98,11 @@ module _ (p : LinearProgram) (s : Standing) (ok : IsProblem p) (f : IsFeasibleSt
   values_at : (xs : List ℚ) (g : AreGivenValues p s xs) (j : ℕ) → j < length p.columns → at xs j ≡ g.0 j
   values_at xs g j h = ap (λ l. at l j) g.2 ∙ at-list_of (length p.columns) g.0 j h
 
-  rest_numbers : (xs : List ℚ) → AreGivenValues p s xs → AreRestNumbers p s (at xs)
-  rest_numbers xs g j h = number_of_value (at xs j) (g.0, g.1, values_at xs g j h)
+  standing : (xs : List ℚ) → AreGivenValues p s xs → AreStanding p s (at xs)
+  standing xs g j h = inr (inl ((let l : j < count_columns p = omega arith in l), g.0, g.1, values_at xs g j h))
 
   rest_in : (xs : List ℚ) (i : ℕ) (c : Passed) → AreGivenValues p s xs → i < length p.rows → PassesIn (Is (rest_row p (at xs) i)) c → PassesIn (StateTerms p s) c
-  rest_in xs i c g h = this_row (StateTerms p s) (rest_row p (at xs) i) c (state_rest i (at xs) h (rest_numbers xs g))
+  rest_in xs i c g h = this_row (StateTerms p s) (rest_row p (at xs) i) c (state_rest i (at xs) h (standing xs g))
 
   entries_are : (j : ℕ) → j < length p.columns → (stage_of p s).entry j ≡ (λ i. coefficient p i j)
   entries_are j h = ap (λ (c : Col). λ i. entry_of (layout_of p) (is_negative s) c i) (column_given (layout_of p) j h)
@@ -225,12 +224,12 @@ module _ (p : LinearProgram) (s : Standing) (ok : IsProblem p) (f : IsFeasibleSt
         (subst (λ m. PassesIn (Is (gap_terms m (at ys) (λ i. (row p i).right) (length p.columns) (combined p ys) (highest_at p (combined p ys)))) c) all_of a))
 
   -- ---- a ray
-  module _ (e : Col) (down : Bool) (xs rs : List ℚ) (given : AreGivenValues p s xs) (m : AreMoves p s e down rs) where
+  module _ (e : Col) (here : HasColumn p s e) (down : Bool) (xs rs : List ℚ) (given : AreGivenValues p s xs) (m : AreMoves p s e down rs) where
     abbrev moved : ℕ → ℚ
     moved j = with_sign down (delta (number_of (layout_of p) e) j -ℚ m.0 j)
 
     is_ray : IsRay p s moved
-    is_ray = record { entering = e; entries = m.0; negative = down; are_entries = m.1; moves = λ j h. refl }
+    is_ray = record { entering = e; entries = m.0; negative = down; present = here; are_entries = m.1; moves = λ j h. refl }
 
     moves_at : (j : ℕ) → j < length p.columns → at rs j ≡ moved j
     moves_at j h = ap (λ l. at l j) m.2 ∙ (at-list_of (length p.columns) (move_of p e down m.0) j h ∙ signed_is down _)
@@ -257,4 +256,4 @@ checks_arise p s NoFlow (cert.Farkas ys) c ok f h is = by_row (FarkasTerms p ys)
 checks_arise p s NoFlow (cert.Ray xs rs) c ok f h is = absurd is
 checks_arise p s (NoBound k) (cert.Best xs ys) c ok f h is = absurd is
 checks_arise p s (NoBound k) (cert.Farkas ys) c ok f h is = absurd is
-checks_arise p s (NoBound k) (cert.Ray xs rs) c ok f h is = by_row (RayTerms p xs rs) (StateTerms p s) c (λ t w a. ray_terms p s ok f (col_of k) (goes_down (place_in p s k)) xs rs is.0 is.1 t c w a)
+checks_arise p s (NoBound k) (cert.Ray xs rs) c ok f h is = by_row (RayTerms p xs rs) (StateTerms p s) c (λ t w a. ray_terms p s ok f (col_of k) h.0.1 (goes_down (place_in p s k)) xs rs is.0 is.1 t c w a)

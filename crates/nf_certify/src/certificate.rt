@@ -81,7 +81,7 @@ fn plan<B: Basis, L: Ledger>(
     steps: &mut Steps<L>,
 ) -> Result<Cert, CertOfFault>
     requires numbers { B.HasNumbers p.now basis.old }
-    requires last { IsLast (layout_of p.now) (B.standing basis.old).stage }
+    requires ended { HasEndedSo p.now (B.standing basis.old) Ended.Best }
     ensures numbers { IfOk result (λ _. B.HasNumbers p.now basis.new) }
     ensures standing { IfOk result (λ _. B.standing basis.new ≡ B.standing basis.old) }
     ensures slots { IfOk result (λ _. B.slots basis.new ≡ B.slots basis.old) }

@@ -1,5 +1,5 @@
 -- The factor of the phase-one duals, found column by column, and the printed duals, row by row.
-use Rattle.std.proofs.Common.{Ordering, Equal, Greater, true, ◌≡◌, ◌⊎◌, inl, inr, ⊎_elim, ℕ, ◌<◌, ◌≤◌, ◌+◌, List, length, refl, sym, ◌∙◌, ap, subst, subst₂, arith}
+use Rattle.std.proofs.Common.{Ordering, Equal, Greater, true, ◌≡◌, ◌≢◌, ◌⊎◌, inl, inr, ⊎_elim, ℕ, ◌<◌, ◌≤◌, ◌+◌, List, length, refl, sym, ◌∙◌, ap, subst, subst₂, arith}
 use Rattle.nf_num.specs.Rational.{ℚ, zero_ℚ, ◌+ℚ◌, ◌*ℚ◌, neg_ℚ, inv_ℚ, ◌<ℚ◌}
 use Rattle.nf_num.proofs.Order.{lt_irrefl}
 use Rattle.nf_model.specs.Program.{LinearProgram, HoldsBelow, at}
@@ -14,14 +14,14 @@ use Rattle.nf_simplex.specs.Layout.{layout_of}
 use Rattle.nf_simplex.specs.Numbers.{reduced}
 use Rattle.nf_simplex.specs.Place.{Place}
 use Rattle.nf_simplex.specs.Stage.{Stage}
-use Rattle.nf_simplex.specs.Moves.{Prices}
+use Rattle.nf_simplex.specs.Moves.{Prices, HasEndedOptimalIn}
 use Rattle.nf_simplex.specs.Standing.{Standing, PhaseOne, PhaseTwo, place_at, rows_of, stage_of, AreDualsOf, AreValuesOf}
 use Rattle.nf_duals.specs.Printed.{ArePrintedBy}
 use Rattle.nf_sums.specs.Terms.{PassesIn, Is}
 use Rattle.nf_sums.specs.Rows.{printed_dual_terms, quotient_terms}
 use Rattle.nf_sums.specs.Steps.{AddsProduct}
 use Rattle.nf_sums.proofs.Laws.{wider, known, flip_added}
-use Rattle.nf_basis.specs.Arising.{StateTerms}
+use Rattle.nf_basis.specs.Arising.{StateTerms, count_columns}
 use Rattle.nf_basis.specs.Arising.StateTerms.{printed_factor, printed_dual}
 use Rattle.nf_duals.specs.Factor.{IsQuotientAt, IsFactorBelow, PrintedTerms}
 
@@ -80,13 +80,13 @@ module _ (S : Stage) (s : ℕ → Place) (d1 d2 : ℕ → ℚ) where
 
 -- its divisions are of a row of the state
 pub quotient_passed_in : (p : LinearProgram) (s : Standing) (one two : List ℚ) (j : ℕ) (x y d1 d2 : ℚ) (c : Passed)
-    → AreDualsOf p s PhaseOne (at one) → AreDualsOf p s PhaseTwo (at two)
-    → d1 ≡ reduced (stage_of p s) (ones (layout_of p)) (at one) j → d2 ≡ reduced (stage_of p s) (twos (layout_of p)) (at two) j
+    → j < count_columns p → HasEndedOptimalIn p s → AreDualsOf p s PhaseOne (at one) → AreDualsOf p s PhaseTwo (at two)
+    → d1 ≢ zero_ℚ → d1 ≡ reduced (stage_of p s) (ones (layout_of p)) (at one) j → d2 ≡ reduced (stage_of p s) (twos (layout_of p)) (at two) j
     → x ≡ neg_ℚ d2 → y ≡ d1 → (c ≡ record { op = Div; left = x; right = y }) × Passes Div x y → PassesIn (StateTerms p s) c
-quotient_passed_in p s one two j x y d1 d2 c a b e f g h is =
+quotient_passed_in p s one two j x y d1 d2 c within ended a b ne e f g h is =
     known (StateTerms p s) Div x y c is.0 (subst (λ (z : Passed). Passes z.op z.left z.right) (sym is.0) is.1)
     (quotient_terms (reduced (stage_of p s) (twos (layout_of p)) (at two) j) (reduced (stage_of p s) (ones (layout_of p)) (at one) j))
-    (printed_factor j (at one) (at two) a b)
+    (printed_factor j (at one) (at two) within ended a b (λ z. ne (e ∙ z)))
     (0, omega arith, (inr (g ∙ ap neg_ℚ f), inl (h ∙ e)))
 
 -- ---- the printed duals
@@ -94,11 +94,11 @@ pub printed_passed : (m : ℚ) (one two : List ℚ) (i : ℕ) (x y : ℚ) (c : P
 printed_passed m one two i x y c h e f a =
     wider (Is (printed_dual_terms (at two i) m (at one i))) (PrintedTerms m one two) c (λ t r. (i, h, r)) (flip_added (at two i) m (at one i) x m y c e refl f a)
 
-pub printed_in_state : (p : LinearProgram) (s : Standing) (m : ℚ) (one two : List ℚ) (c : Passed) → AreDualsOf p s PhaseOne (at one) → AreDualsOf p s PhaseTwo (at two)
+pub printed_in_state : (p : LinearProgram) (s : Standing) (m : ℚ) (one two : List ℚ) (c : Passed) → length two ≡ rows_of p s → HasEndedOptimalIn p s → AreDualsOf p s PhaseOne (at one) → AreDualsOf p s PhaseTwo (at two)
     → IsFactor (stage_of p s) (place_at s) (reduced (stage_of p s) (ones (layout_of p)) (at one)) (reduced (stage_of p s) (twos (layout_of p)) (at two)) m
     → PassesIn (PrintedTerms m one two) c → PassesIn (StateTerms p s) c
-printed_in_state p s m one two c a b f =
-    wider (PrintedTerms m one two) (StateTerms p s) c (λ t w. subst (StateTerms p s) (sym w.2) (printed_dual w.0 (at one) (at two) m a b f))
+printed_in_state p s m one two c len ended a b f =
+    wider (PrintedTerms m one two) (StateTerms p s) c (λ t w. subst (StateTerms p s) (sym w.2) (printed_dual w.0 (at one) (at two) m (subst (λ n. w.0 < n) len w.1) ended a b f))
 
 -- the other answers of a comparison
 pub not_less_by : (m q : ℚ) (o : Ordering) → IsOrder o m q → (o ≡ Equal) ⊎ (o ≡ Greater) → m <ℚ q → ⊥

@@ -1,11 +1,12 @@
 //! The duals as they are printed.
-ghost use Rattle.std.specs.Prelude.{◌≡◌, ◌≢◌, ◌<◌, ◌+◌, ◌⊎◌, length, IfOk, IfErr, IfSome, IfNone};
+ghost use Rattle.std.specs.Prelude.{true, ◌≡◌, ◌≢◌, ◌<◌, ◌+◌, ◌⊎◌, length, IfOk, IfErr, IfSome, IfNone};
 ghost use Rattle.nf_num.specs.Rational.{ℚ, zero_ℚ, ◌<ℚ◌, ◌+ℚ◌, ◌*ℚ◌};
 ghost use Rattle.nf_model.specs.Program.{HoldsBelow, at};
 ghost use Rattle.nf_sums.specs.Terms.{PassesIn};
 ghost use Rattle.nf_simplex.specs.Columns.{ones, twos};
 ghost use Rattle.nf_simplex.specs.Ends.{IsFactor, IsPriced};
 ghost use Rattle.nf_simplex.specs.Layout.{layout_of};
+ghost use Rattle.nf_simplex.specs.Moves.{HasEndedOptimalIn};
 ghost use Rattle.nf_simplex.specs.Numbers.{reduced};
 ghost use Rattle.nf_simplex.specs.Standing.{place_at, rows_of, stage_of};
 ghost use Rattle.nf_basis.specs.Arising.{StateTerms};
@@ -42,6 +43,7 @@ pub fn printed_duals<B: Basis, L: Ledger>(
     requires numbers { B.HasNumbers p.now basis.old }
     requires places_one { length one.old ≡ rows_of p.now (B.standing basis.old) }
     requires places_two { length two.old ≡ rows_of p.now (B.standing basis.old) }
+    requires ended { best ≡ true → HasEndedOptimalIn p.now (B.standing basis.old) }
     ensures numbers { IfOk result (λ _. B.HasNumbers p.now basis.new) }
     ensures standing { IfOk result (λ _. B.standing basis.new ≡ B.standing basis.old) }
     ensures slots { IfOk result (λ _. B.slots basis.new ≡ B.slots basis.old) }
@@ -71,6 +73,7 @@ fn factor<L: Ledger>(
     requires state { IsStateOf p.now state.now }
     requires one { HasDuals p.now state.now.standing Phase.One one.now }
     requires two { HasDuals p.now state.now.standing Phase.Two two.now }
+    requires ended { HasEndedOptimalIn p.now state.now.standing }
     ensures factor { IfOk result (IsFactor (stage_of p.now state.now.standing) (place_at state.now.standing) (reduced (stage_of p.now state.now.standing) (ones (layout_of p.now)) (at one.now)) (reduced (stage_of p.now state.now.standing) (twos (layout_of p.now)) (at two.now))) }
     ensures passed { IfErr result (PassesIn (StateTerms p.now state.now.standing)) }
 {
@@ -96,6 +99,7 @@ fn quotient<L: Ledger>(
     requires one { HasDuals p.now state.now.standing Phase.One one.now }
     requires two { HasDuals p.now state.now.standing Phase.Two two.now }
     requires within { k < count_priced p.now }
+    requires ended { HasEndedOptimalIn p.now state.now.standing }
     ensures some { IfOk result (λ r. IfSome r (IsQuotientAt (stage_of p.now state.now.standing) (place_at state.now.standing) (reduced (stage_of p.now state.now.standing) (ones (layout_of p.now)) (at one.now)) (reduced (stage_of p.now state.now.standing) (twos (layout_of p.now)) (at two.now)) k)) }
     ensures none { IfOk result (λ r. IfNone r ((q : ℚ) → IsQuotientAt (stage_of p.now state.now.standing) (place_at state.now.standing) (reduced (stage_of p.now state.now.standing) (ones (layout_of p.now)) (at one.now)) (reduced (stage_of p.now state.now.standing) (twos (layout_of p.now)) (at two.now)) k q → ⊥)) }
     ensures passed { IfErr result (PassesIn (StateTerms p.now state.now.standing)) }

@@ -23,10 +23,10 @@ use Rattle.nf_engine.specs.declared.turn.Change.{Change}
 use Rattle.nf_engine.specs.declared.turn.Change.TheVariants.{Pivot, Flip}
 use Rattle.nf_engine.specs.Steps.{IsChange, StepsBy}
 use Rattle.nf_engine.proofs.StepFacts.{step_to}
-use Rattle.nf_engine.specs.Run.{IsShort, IsMet, IsFeasibleDue, GoesOnTo, GoesOn, Halts, Leads, PassesAt, IsTurnTo, IsHaltDue}
+use Rattle.nf_engine.specs.Run.{IsShort, IsMet, IsFeasibleDue, GoesOnTo, GoesOn, Halts, Comes, PassesAt, IsTurnTo, IsHaltDue}
 use Rattle.nf_engine.specs.Run.GoesOn.{here as on_here, further as on_further}
 use Rattle.nf_engine.specs.Run.Halts.{limit as halts_limit, pause as halts_pause, feasible as halts_feasible}
-use Rattle.nf_engine.specs.Run.Leads.{here as leads_here, further as leads_further}
+use Rattle.nf_engine.specs.Run.Comes.{there, behind}
 
 -- Artificials that sum to more than 0 are not met.
 not_both : (p : LinearProgram) (s : Standing) → IsBasisOf p s → IsShort p s → IsMet p s → ⊥
@@ -61,25 +61,25 @@ module _ (p : LinearProgram) (rule : Rule) (most : ℕ) (pauses : Pauses) where
       let b : Point = record { standing = flipped p a.standing (col_of c); pivots = suc a.pivots; cursor = suc (number p c) } in
       halts_limit c b (step_to p rule a f c b refl refl due.0 due.1.next) h
 
-  leads_to : (a b : Point) → GoesOn p rule most pauses a b → Leads p rule a b
-  leads_to a b on_here = leads_here
-  leads_to a _ (on_further m b g x) = leads_further x.column m b (leads_to a m g) x.step
+  joined : (a m b : Point) → GoesOn p rule most pauses a m → GoesOn p rule most pauses m b → GoesOn p rule most pauses a b
+  joined a m b x on_here = x
+  joined a m _ x (on_further k b y s) = on_further k b (joined a m k x y) s
 
-  joined : (a m b : Point) → Leads p rule a m → Leads p rule m b → Leads p rule a b
-  joined a m b x leads_here = x
-  joined a m _ x (leads_further c k b y s) = leads_further c k b (joined a m k x y) s
+  comes_later : (a m b : Point) → GoesOn p rule most pauses a m → Comes p rule most pauses m b → Comes p rule most pauses a b
+  comes_later a m _ x (there b g) = there b (joined a m b x g)
+  comes_later a m _ x (behind c k b g below s) = behind c k b (joined a m k x g) below s
 
   -- What passes in a turn behind others passes in the run.
-  pub passes_later : (a m : Point) (n : ℕ) (e : Passed) → GoesOn p rule most pauses a m → PassesAt p rule m n e → PassesAt p rule a n e
-  passes_later a m n e g x = record { at = x.at; leads = joined a m x.at (leads_to a m g) x.leads; count = x.count; passes = x.passes }
+  pub passes_later : (a m : Point) (n : ℕ) (e : Passed) → GoesOn p rule most pauses a m → PassesAt p rule most pauses m n e → PassesAt p rule most pauses a n e
+  passes_later a m n e g x = record { at = x.at; comes = comes_later a m x.at g x.comes; count = x.count; passes = x.passes }
 
   -- A turn that makes a step brings the limit nearer.
   pub nearer : (a b : Point) → GoesOnTo p rule most pauses a b → most - b.pivots < most - a.pivots
   nearer a b x = let h = x.below in let e = x.step.counted in omega (arith, h, e)
 
   -- What passes in the state itself, or behind a step.
-  pub passes_here : (a : Point) (n : ℕ) (e : Passed) → a.pivots ≡ n → PassesIn (StateTerms p a.standing) e → PassesAt p rule a n e
-  passes_here a n e same h = record { at = a; leads = leads_here; count = same; passes = h }
+  pub passes_here : (a : Point) (n : ℕ) (e : Passed) → a.pivots ≡ n → PassesIn (StateTerms p a.standing) e → PassesAt p rule most pauses a n e
+  passes_here a n e same h = record { at = a; comes = there a on_here; count = same; passes = h }
 
-  pub passes_next : (a b : Point) (c : Col) (n : ℕ) (e : Passed) → StepsBy p rule a c b → b.pivots ≡ n → PassesIn (StateTerms p b.standing) e → PassesAt p rule a n e
-  passes_next a b c n e step same h = record { at = b; leads = leads_further c a b leads_here step; count = same; passes = h }
+  pub passes_next : (a b : Point) (c : Col) (n : ℕ) (e : Passed) → a.pivots < most → StepsBy p rule a c b → b.pivots ≡ n → PassesIn (StateTerms p b.standing) e → PassesAt p rule most pauses a n e
+  passes_next a b c n e below step same h = record { at = b; comes = behind c a b on_here below step; count = same; passes = h }

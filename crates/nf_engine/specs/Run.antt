@@ -60,15 +60,15 @@ pub record RunsTo (p : LinearProgram) (rule : Rule) (most : ℕ) (pauses : Pause
   pub steps : GoesOn p rule most pauses a before
   pub last : Halts p rule most pauses before halt b
 
--- Steps from a to b, whatever is due behind them.
-pub data Leads (p : LinearProgram) (rule : Rule) (a : Point) : Point → Type 0 where
-  here : Leads p rule a a
-  further : (c : Col) (m b : Point) → Leads p rule a m → StepsBy p rule m c b → Leads p rule a b
+-- A run from a comes to b: by steps behind none of which a halt is due, or by one step more that the limit allows.
+pub data Comes (p : LinearProgram) (rule : Rule) (most : ℕ) (pauses : Pauses) (a : Point) : Point → Type 0 where
+  there : (b : Point) → GoesOn p rule most pauses a b → Comes p rule most pauses a b
+  behind : (c : Col) (m b : Point) → GoesOn p rule most pauses a m → m.pivots < most → StepsBy p rule m c b → Comes p rule most pauses a b
 
--- An operation passes that arises from the state to which steps from a lead at this count of pivots.
-pub record PassesAt (p : LinearProgram) (rule : Rule) (a : Point) (pivots : ℕ) (passed : Passed) : Type 0 where
+-- An operation passes that arises from the state to which the run from a comes at this count of pivots.
+pub record PassesAt (p : LinearProgram) (rule : Rule) (most : ℕ) (pauses : Pauses) (a : Point) (pivots : ℕ) (passed : Passed) : Type 0 where
   pub at : Point
-  pub leads : Leads p rule a at
+  pub comes : Comes p rule most pauses a at
   pub count : at.pivots ≡ pivots
   pub passes : PassesIn (StateTerms p at.standing) passed
 

@@ -158,7 +158,7 @@ impl<B: Basis> Engine<B> {
         ensures feasible { IfOk result (λ _. IsFeasibleState p.now (B.standing self.new.basis)) }
         ensures room { IfOk result (λ _. self.new.room ≡ rows_of p.now (B.standing self.new.basis)) }
         ensures run { IfOk result (λ h. RunsTo p.now rule most pauses.now (point B.standing self.old) h (point B.standing self.new)) }
-        ensures passed { IfErr result (PassesAt p.now rule (point B.standing self.old) self.new.pivots) }
+        ensures passed { IfErr result (PassesAt p.now rule most pauses.now (point B.standing self.old) self.new.pivots) }
     {
         'turns: loop {
             if let Some(halt) = self.turn(p, rule, most, pauses, steps)? {
@@ -184,7 +184,7 @@ impl<B: Basis> Engine<B> {
         ensures feasible { IfOk result (λ _. IsFeasibleState p.now (B.standing self.new.basis)) }
         ensures room { IfOk result (λ _. self.new.room ≡ rows_of p.now (B.standing self.new.basis)) }
         ensures turn { IfOk result (λ h. IsTurnTo p.now rule most pauses.now (point B.standing self.old) h (point B.standing self.new)) }
-        ensures passed { IfErr result (PassesAt p.now rule (point B.standing self.old) self.new.pivots) }
+        ensures passed { IfErr result (PassesAt p.now rule most pauses.now (point B.standing self.old) self.new.pivots) }
     {
         let due = look(p, &mut self.basis, rule, self.cursor, &mut self.room, steps)?;
         match due.turn {

@@ -16,7 +16,7 @@ use Rattle.nf_basis.specs.declared.col.Place.TheVariants.{Lower, Upper, Basic, A
 use Rattle.nf_basis.specs.Names.{col_of}
 use Rattle.nf_basis.specs.Kept.{IsPresent, number}
 use Rattle.nf_basis.specs.Numbers.{AreEntriesBySlot, IsInverseColumnBySlot, IsSound, in_slot, slot_number}
-use Rattle.nf_basis.specs.Arising.{StateTerms, IsBoundAt, IsPivotAt}
+use Rattle.nf_basis.specs.Arising.{StateTerms, count_columns, IsBoundAt, IsPivotAt}
 use Rattle.nf_basis.specs.Arising.StateTerms.{ratio as ratio_row, ratio_distance, distance}
 use Rattle.nf_basis.specs.Arising.IsChange.{value as value_changed, weight as weight_changed}
 use Rattle.nf_ratio.specs.Loops.{bound_at, NextTerms}
@@ -36,17 +36,20 @@ module _ (p : LinearProgram) (s : Standing) (slots : List Col) (x : ℕ → ℚ)
   bound_is c h Basic b e = absurd (let z : None ≡ Some b = e in cc)
   bound_is c h Absent b e = absurd (let z : None ≡ Some b = e in cc)
 
+  slot_within : (i : ℕ) → i < rows_of p s → slot_number p slots i < count_columns p
+  slot_within i h = number_within (layout_of p) s.stage (col_of (in_slot slots i)) sound.problem.arcs_within (sound.listed.present i h).1
+
   -- a way to a bound
   pub way_arises : (i : ℕ) → i < rows_of p s → (a : Place) (b : ℚ) → bound_at p (in_slot slots i) a ≡ Some b → (e : Passed) → PassesIn (Is (difference_terms (x (slot_number p slots i)) b)) e → PassesIn (StateTerms p s) e
   way_arises i h a b q e passes = wider (Is (difference_terms (x (slot_number p slots i)) b)) (StateTerms p s) e
-      (λ t z. subst (StateTerms p s) (sym z) (ratio_distance (slot_number p slots i) (x (slot_number p slots i)) b (x, sound.values, refl) (bound_is (in_slot slots i) (sound.listed.present i h) a b q))) passes
+      (λ t z. subst (StateTerms p s) (sym z) (ratio_distance (slot_number p slots i) (x (slot_number p slots i)) b (slot_within i h, x, sound.values, refl) (bound_is (in_slot slots i) (sound.listed.present i h) a b q))) passes
 
   module _ (c : Col) (here : IsPresent p s c) (entries : List ℚ) (are : AreEntriesBySlot p s slots c entries) where
     pub pivot_at : (i : ℕ) → i < rows_of p s → at entries i ≢ zero_ℚ → IsPivotAt p s (col_of c) (slot_number p slots i) are.weights
     pivot_at i h n = record {
       entering = here.1;
       are_entries = are.are_weights;
-      within = number_within (layout_of p) s.stage (col_of (in_slot slots i)) sound.problem.arcs_within (sound.listed.present i h).1;
+      within = slot_within i h;
       basic = sound.listed.basic i h;
       not_zero = λ z. n (are.by_slot i h ∙ z);
     }
@@ -57,7 +60,7 @@ module _ (p : LinearProgram) (s : Standing) (slots : List Col) (x : ℕ → ℚ)
     value_ratio_arises i h pivot a b q e passes = wider (Is (quotient_terms (x (slot_number p slots i) -ℚ b) (at entries i))) (StateTerms p s) e
         (λ t z. subst (StateTerms p s) (sym (z ∙ ap (quotient_terms (x (slot_number p slots i) -ℚ b)) (are.by_slot i h)))
         (ratio_row (col_of c) (slot_number p slots i) are.weights (x (slot_number p slots i) -ℚ b) (pivot_at i h pivot)
-        (value_changed (x (slot_number p slots i) -ℚ b) (x (slot_number p slots i)) b (x, sound.values, refl) (bound_is (in_slot slots i) (sound.listed.present i h) a b q) refl))) passes
+        (value_changed (x (slot_number p slots i) -ℚ b) (x (slot_number p slots i)) b (slot_within i h, x, sound.values, refl) (bound_is (in_slot slots i) (sound.listed.present i h) a b q) refl))) passes
 
 -- the same, as the code comes by them
 module _ (p : LinearProgram) (s : Standing) (slots : List Col) (x : ℕ → ℚ) (sound : IsSound p s slots x) (i : ℕ) (h : i < rows_of p s) (col : Col) (there : col ≡ in_slot slots i) (a : Place) (b v : ℚ) (met : Some b ≡ bound_at p col a) (is : v ≡ x (number p col)) where
@@ -74,7 +77,7 @@ module _ (p : LinearProgram) (s : Standing) (slots : List Col) (x : ℕ → ℚ)
   -- the distance of two bounds
   pub span_passed : (e : Passed) → (l : ℚ) × (u : ℚ) × (bound_at p c Lower ≡ Some l) × (bound_at p c Upper ≡ Some u) × PassesIn (Is (difference_terms u l)) e → PassesIn (StateTerms p s) e
   span_passed e (l, u, a, b, q) = wider (Is (difference_terms u l)) (StateTerms p s) e
-      (λ t z. subst (StateTerms p s) (sym z) (distance (number p c) l u (lower_is p s slots x sound c here ∙ a) (upper_is p s slots x sound c here ∙ b))) q
+      (λ t z. subst (StateTerms p s) (sym z) (distance (number p c) l u (number_within (layout_of p) s.stage (col_of c) sound.problem.arcs_within here.1) (lower_is p s slots x sound c here ∙ a) (upper_is p s slots x sound c here ∙ b))) q
 
   -- ratios of weights
   pub next_passed : (entries weights : List ℚ) (ratios : List (Option ℚ)) (row : ℕ) → AreEntriesBySlot p s slots c entries → IsInverseColumnBySlot p s slots row weights → 0 < row → row ≤ rows_of p s → length entries ≡ rows_of p s
@@ -85,4 +88,4 @@ module _ (p : LinearProgram) (s : Standing) (slots : List Col) (x : ℕ → ℚ)
       of t (i, h, there, z) =
           let g : i < rows_of p s = subst (λ k. i < k) long h in
           subst (StateTerms p s) (sym (z ∙ ap (quotient_terms (at weights i)) (are.by_slot i g)))
-          (ratio_row (col_of c) (slot_number p slots i) are.weights (at weights i) (pivot_at p s slots x sound c here entries are i g (pivot i h there)) (weight_changed (at weights i) (row - 1, inv.weights, (let a : row - 1 < rows_of p s = omega arith in a), inv.are_weights, inv.by_slot i g)))
+          (ratio_row (col_of c) (slot_number p slots i) are.weights (at weights i) (pivot_at p s slots x sound c here entries are i g (pivot i h there)) (weight_changed (at weights i) (slot_within p s slots x sound i g, row - 1, inv.weights, (let a : row - 1 < rows_of p s = omega arith in a), inv.are_weights, inv.by_slot i g)))

@@ -12,7 +12,7 @@ use Rattle.nf_engine.specs.declared.halt.Moved.{Moved}
 use Rattle.nf_engine.specs.declared.halt.Moved.TheVariants.{Pivoted, Flipped, Best, NoFlow, NoBound}
 use Rattle.nf_engine.specs.declared.halt.Pauses.{Pauses}
 use Rattle.nf_engine.specs.Point.{Point}
-use Rattle.nf_engine.specs.Run.{GoesOn, Halts, Leads, PassesAt, RunsTo}
+use Rattle.nf_engine.specs.Run.{GoesOn, Halts, Comes, PassesAt, RunsTo}
 use Rattle.nf_engine.specs.Steps.{HasEnded, Picks}
 use Rattle.nf_simplex.specs.Layout.{layout_of}
 use Rattle.nf_simplex.specs.StageOf.{StageNumber, StageOne, StageTwo, IsLast}
@@ -34,19 +34,14 @@ use Rattle.nf_run.specs.Steps.{IsHaltIn, IsStageFault, IsTellingFault, KeepsProo
 use Rattle.nf_run.specs.Verdicts.{HasVerdict, IsVerdict, MeansEnd, Says, Tells, TellsVerdict}
 
 -- ---- paths
-goes_leads : (p : LinearProgram) (rule : Rule) (most : ℕ) (pauses : Pauses) (a b : Point) → GoesOn p rule most pauses a b → Leads p rule a b
-goes_leads p rule most pauses a b GoesOn.here = Leads.here
-goes_leads p rule most pauses a b (GoesOn.further m n on to) = Leads.further to.column m b (goes_leads p rule most pauses a m on) to.step
+halts_come : (p : LinearProgram) (rule : Rule) (most : ℕ) (pauses : Pauses) (a m b : Point) (halt : Halt) → GoesOn p rule most pauses a m → Halts p rule most pauses m halt b → Comes p rule most pauses a b
+halts_come p rule most pauses a m b halt on (Halts.ended moved ended) = Comes.there b on
+halts_come p rule most pauses a m b halt on (Halts.limit c n step full) = Comes.there b on
+halts_come p rule most pauses a m b halt on (Halts.pause c n below step due) = Comes.behind c m b on below step
+halts_come p rule most pauses a m b halt on (Halts.feasible c n below step none due) = Comes.behind c m b on below step
 
-halts_leads : (p : LinearProgram) (rule : Rule) (most : ℕ) (pauses : Pauses) (a m b : Point) (halt : Halt) → Leads p rule a m → Halts p rule most pauses m halt b → Leads p rule a b
-halts_leads p rule most pauses a m b halt on (Halts.ended moved ended) = on
-halts_leads p rule most pauses a m b halt on (Halts.limit c n step full) = on
-halts_leads p rule most pauses a m b halt on (Halts.pause c n below step due) = Leads.further c m b on step
-halts_leads p rule most pauses a m b halt on (Halts.feasible c n below step none due) = Leads.further c m b on step
-
-pub runs_leads : (p : LinearProgram) (w : Setting) (a b : Point) (halt : Halt) → Runs p w a halt b → Leads p w.rule a b
-runs_leads p w a b halt r =
-    halts_leads p w.rule w.most w.pauses a r.before b halt (goes_leads p w.rule w.most w.pauses a r.before r.steps) r.last
+pub runs_come : (p : LinearProgram) (w : Setting) (a b : Point) (halt : Halt) → Runs p w a halt b → Comes p w.rule w.most w.pauses a b
+runs_come p w a b halt r = halts_come p w.rule w.most w.pauses a r.before b halt r.steps r.last
 
 -- ---- the halt
 halts_in : (p : LinearProgram) (w : Setting) (m b : Point) (halt : Halt) → Halts p w.rule w.most w.pauses m halt b → IsHaltIn p w b.standing halt
@@ -168,12 +163,16 @@ pub says_of : (p : LinearProgram) (w : Setting) (a b : Point) (halt : Halt) (tol
 says_of p w a b halt told proof r h = halts_say p w r.before b halt told proof r.last h
 
 -- ---- the stage
-leads_stage : (p : LinearProgram) (rule : Rule) (a b : Point) → Leads p rule a b → b.standing.stage ≡ a.standing.stage
-leads_stage p rule a b Leads.here = refl
-leads_stage p rule a b (Leads.further c m n on step) = step.next.same_stage ∙ leads_stage p rule a m on
+goes_stage : (p : LinearProgram) (rule : Rule) (most : ℕ) (pauses : Pauses) (a b : Point) → GoesOn p rule most pauses a b → b.standing.stage ≡ a.standing.stage
+goes_stage p rule most pauses a b GoesOn.here = refl
+goes_stage p rule most pauses a b (GoesOn.further m n on to) = to.step.next.same_stage ∙ goes_stage p rule most pauses a m on
+
+comes_stage : (p : LinearProgram) (rule : Rule) (most : ℕ) (pauses : Pauses) (a b : Point) → Comes p rule most pauses a b → b.standing.stage ≡ a.standing.stage
+comes_stage p rule most pauses a b (Comes.there n on) = goes_stage p rule most pauses a b on
+comes_stage p rule most pauses a b (Comes.behind c m n on below step) = step.next.same_stage ∙ goes_stage p rule most pauses a m on
 
 pub runs_stage : (p : LinearProgram) (w : Setting) (a b : Point) (halt : Halt) → Runs p w a halt b → b.standing.stage ≡ a.standing.stage
-runs_stage p w a b halt r = leads_stage p w.rule a b (runs_leads p w a b halt r)
+runs_stage p w a b halt r = comes_stage p w.rule w.most w.pauses a b (runs_come p w a b halt r)
 
 -- ---- of what the call of the engine told
 pub runs_of : (p : LinearProgram) (w : Setting) (most : ℕ) (a b c d : Point) (halt : Halt) → RunsTo p w.rule most w.pauses a halt b → most ≡ w.most → a ≡ c → b ≡ d → Runs p w c halt d
@@ -184,8 +183,8 @@ point_same s t n m k l d e f = λ i. record { standing = d i; pivots = e i; curs
 
 -- ---- operations that pass
 -- where a step passes
-pub step_passes : (p : LinearProgram) (w : Setting) (a c : Point) (m n : ℕ) (passed : Passed) (g : RunFault) → PassesAt p w.rule a m passed → a ≡ c → n ≡ m → g ≡ fault.Range w.stage n passed → IsStageFault p w c g
-step_passes p w a c m n passed g h from count is = subst (IsStageFault p w c) (sym is) (refl, subst₂ (λ x k. PassesAt p w.rule x k passed) from (sym count) h)
+pub step_passes : (p : LinearProgram) (w : Setting) (a c : Point) (m n : ℕ) (passed : Passed) (g : RunFault) (most : ℕ) → PassesAt p w.rule most w.pauses a m passed → most ≡ w.most → a ≡ c → n ≡ m → g ≡ fault.Range w.stage n passed → IsStageFault p w c g
+step_passes p w a c m n passed g most h up_to from count is = subst (IsStageFault p w c) (sym is) (refl, subst₂ (λ x k. PassesAt p w.rule w.most w.pauses x k passed) from (sym count) (subst (λ k. PassesAt p w.rule k w.pauses a m passed) up_to h))
 
 -- where a halt is not told
 pub telling_passes : (p : LinearProgram) (w : Setting) (s : Standing) (n k : ℕ) (f : CertOfFault) (g : RunFault) → IsCertFault p s f → g ≡ number_fault w.stage n f → IsTellingFault p w (record { standing = s; pivots = n; cursor = k }) g
@@ -194,6 +193,6 @@ telling_passes p w s n k certificate.NoMemory g why is = subst (IsTellingFault p
 
 -- in the numbers of the state to which a run has come
 pub telling_fails : (p : LinearProgram) (w : Setting) (a b : Point) (halt : Halt) (g : RunFault) → Runs p w a halt b → IsTellingFault p w b g → IsStageFault p w a g
-telling_fails p w a b halt (fault.Range stage pivots passed) r h = (h.0, record { at = b; leads = runs_leads p w a b halt r; count = sym h.1; passes = h.2 })
+telling_fails p w a b halt (fault.Range stage pivots passed) r h = (h.0, record { at = b; comes = runs_come p w a b halt r; count = sym h.1; passes = h.2 })
 telling_fails p w a b halt fault.Write r h = absurd h
 telling_fails p w a b halt fault.NoMemory r h = tt

@@ -46,7 +46,7 @@ stage_gives p o n w earlier a at b halt told proof is stage runs shows same =
 
 pub stage_fails : (p : LinearProgram) (o : SessionOptions) (n : StageNumber) (w : Setting) (earlier : ℕ) (a : Point) (f : RunFault) → w ≡ setting_in o n → a.standing.stage ≡ n → IsStageFault p w a f
     → IsRunFault p o (record { point = a; earlier = earlier }) f
-stage_fails p o n w earlier a (fault.Range stage pivots passed) is at h = inl (subst (λ (v : Setting). (stage ≡ v.stage) × PassesAt p v.rule a pivots passed) (setting_is o n a.standing w is at) h)
+stage_fails p o n w earlier a (fault.Range stage pivots passed) is at h = inl (subst (λ (v : Setting). (stage ≡ v.stage) × PassesAt p v.rule v.most v.pauses a pivots passed) (setting_is o n a.standing w is at) h)
 stage_fails p o n w earlier a fault.Write is at h = absurd h
 stage_fails p o n w earlier a fault.NoMemory is at h = tt
 
@@ -84,7 +84,7 @@ module _ (p : LinearProgram) (o : SessionOptions) (w : Setting) (a at : Point) (
           ends = ends;
           start = start;
           starts = starts;
-          passes = subst₂ (λ n x. PassesAt p (setting_in o n).rule x pivots passed) (sym two) new h.1;
+          passes = subst₂ (λ n x. PassesAt p (setting_in o n).rule (setting_in o n).most (setting_in o n).pauses x pivots passed) (sym two) new h.1;
         },
       ))
   two_fails start from fault.Write two starts new h = absurd h

@@ -91,7 +91,7 @@ Gives p o a line b = GivesInStage p o a line b ⊎ GivesOverEnd p o a line b
 -- ---- operations that pass 128 bits
 -- In a run of a stage from a: the operation arises from the state to which its steps lead with so many pivots.
 abbrev pub PassesInStage : LinearProgram → Setting → Point → ℕ → Passed → Type 0
-PassesInStage p w a pivots passed = PassesAt p w.rule a pivots passed
+PassesInStage p w a pivots passed = PassesAt p w.rule w.most w.pauses a pivots passed
 
 -- While stage two starts: the operation arises from the last state of stage one.
 abbrev pub PassesBetween : LinearProgram → SessionOptions → Point → Passed → Type 0

@@ -21,10 +21,8 @@ use Rattle.nf_basis.specs.declared.col.Col.{Col}
 use Rattle.nf_basis.specs.declared.col.Col.TheVariants.{Given, Artificial}
 use Rattle.nf_basis.specs.Names.{col_of}
 use Rattle.nf_basis.specs.Kept.{Kept, IsStateOf, IsPresent, MayStand, number, place_in}
-use Rattle.nf_basis.specs.Arising.{StateTerms, IsRestNumber, AreRestNumbers, rest_at, rest_row}
-use Rattle.nf_basis.specs.Arising.StateTerms.{rest as rest_term}
-use Rattle.nf_basis.specs.Arising.IsRestNumber.{bound as at_bound, value as as_value}
-use Rattle.nf_basis.proofs.RestNumbers.{zero_number}
+use Rattle.nf_basis.specs.Arising.{StateTerms, count_columns, IsBoundAt, HasValueAt, AreStanding, rest_at, rest_row}
+use Rattle.nf_basis.specs.Arising.StateTerms.{standing_rest}
 
 -- ---- columns of stage one
 pub arc_present : (p : LinearProgram) (s : Standing) (j : ℕ) → s.stage ≡ StageOne → j < p.arcs → IsPresent p s (Given (j + 1))
@@ -52,19 +50,22 @@ nonarc_or_zero P None (Some u) bounds z = bounds u (inr refl)
 nonarc_or_zero P None None bounds z = z
 
 module _ (p : LinearProgram) (s : Standing) (x : ℕ → ℚ) (are : AreValuesOf p s x) where
-  numbers : AreRestNumbers p s (second_number (layout_of p) x)
-  numbers j h = of (less_or_not j p.arcs)
-    where
-      bounds : (b : ℚ) → (lower_of (column p j) ≡ Some b) ⊎ (upper_of (column p j) ≡ Some b) → IsRestNumber p s j b
-      bounds b (inl e) = at_bound b (inl (ap (col_lower (layout_of p)) (column_given (layout_of p) j h) ∙ e))
-      bounds b (inr e) = at_bound b (inr (ap (col_upper (layout_of p)) (column_given (layout_of p) j h) ∙ e))
+  abbrev Stands : ℕ → ℚ → Type 0
+  Stands j v = IsBoundAt p s j v ⊎ HasValueAt p s j v ⊎ (v ≡ zero_ℚ)
 
-      of : (j < p.arcs) ⊎ (p.arcs ≤ j) → IsRestNumber p s j (second_number (layout_of p) x j)
-      of (inl l) = as_value (second_number (layout_of p) x j) (x, are, yes_less j p.arcs (x j) _ l)
-      of (inr l) = subst (IsRestNumber p s j) (sym (not_less j p.arcs (x j) _ l)) (nonarc_or_zero (IsRestNumber p s j) (lower_of (column p j)) (upper_of (column p j)) bounds (zero_number p s x are j))
+  standing : AreStanding p s (second_number (layout_of p) x)
+  standing j h = of (less_or_not j p.arcs)
+    where
+      bounds : (b : ℚ) → (lower_of (column p j) ≡ Some b) ⊎ (upper_of (column p j) ≡ Some b) → Stands j b
+      bounds b (inl e) = inl (inl (ap (col_lower (layout_of p)) (column_given (layout_of p) j h) ∙ e))
+      bounds b (inr e) = inl (inr (ap (col_upper (layout_of p)) (column_given (layout_of p) j h) ∙ e))
+
+      of : (j < p.arcs) ⊎ (p.arcs ≤ j) → Stands j (second_number (layout_of p) x j)
+      of (inl l) = inr (inl ((let m : j < count_columns p = omega arith in m), x, are, yes_less j p.arcs (x j) _ l))
+      of (inr l) = subst (Stands j) (sym (not_less j p.arcs (x j) _ l)) (nonarc_or_zero (Stands j) (lower_of (column p j)) (upper_of (column p j)) bounds (inr (inr refl)))
 
   pub second_arises : (i : ℕ) → i < length p.rows → (c : Passed) → PassesIn (Is (rest_row p (second_number (layout_of p) x) i)) c → PassesIn (StateTerms p s) c
-  second_arises i h c = wider (Is (rest_row p (second_number (layout_of p) x) i)) (StateTerms p s) c (λ t e. subst (StateTerms p s) (sym e) (rest_term i (second_number (layout_of p) x) h numbers))
+  second_arises i h c = wider (Is (rest_row p (second_number (layout_of p) x) i)) (StateTerms p s) c (λ t e. subst (StateTerms p s) (sym e) (standing_rest i (second_number (layout_of p) x) h standing))
 
 -- ---- signs
 pub not_below : (b : Bool) (r : ℚ) → IsTrue b ↔ (r <ℚ zero_ℚ) → IsTrue (not b) ↔ (zero_ℚ ≤ℚ r)

@@ -167,8 +167,8 @@ module _ (p : LinearProgram) (s t : Standing) (x : ℕ → ℚ) (ok : IsProblem 
           ∙ (scale_sum (all_columns (layout_of p)) (λ j. u j *ℚ (stage_of p s).entry j i) (sign (is_negative s r)) ∙ (ap (λ z. sign (is_negative s r) *ℚ z) (are_u.gives i h) ∙ sym (artificial_column i)));
     }
 
-    its_ray : IsRay p s ray
-    its_ray = record { entering = columns.Artificial r; entries = λ j. sign (is_negative s r) *ℚ u j; negative = not (is_negative s r); are_entries = its_entries; moves = λ j h. refl }
+    its_ray : r < p.nodes → IsRay p s ray
+    its_ray small = record { entering = columns.Artificial r; entries = λ j. sign (is_negative s r) *ℚ u j; negative = not (is_negative s r); present = subst (λ n. IsOfStage (layout_of p) n (columns.Artificial r)) (sym one) small; are_entries = its_entries; moves = λ j h. refl }
 
     on_given : (b : Bool) (y : ℚ) → with_sign (not b) (zero_ℚ -ℚ sign b *ℚ y) ≡ y
     on_given true y = ring (y ∷ []) (nought :- minus unit :* v 0) (v 0) refl
@@ -177,9 +177,9 @@ module _ (p : LinearProgram) (s t : Standing) (x : ℕ → ℚ) (ok : IsProblem 
     ray_is : (j : ℕ) → j < length p.columns → ray j ≡ u j
     ray_is j h = ap (λ d. with_sign (not (is_negative s r)) (d -ℚ sign (is_negative s r) *ℚ u j)) (unit_other (number_in p (columns.Artificial r)) j (omega arith)) ∙ on_given (is_negative s r) (u j)
 
-    pub sums_arise : (spread : List ℚ) → ((j : ℕ) → j < length p.columns → at spread j ≡ u j) → (c : Passed) → PassesIn (RowTerms p spread) c → PassesIn (StateTerms p s) c
-    sums_arise spread same c = carried (RowTerms p spread) (StateTerms p s) c
-        (λ part (i, h, e). (total_terms (length p.columns) (coefficient p i) ray, subst (λ t. IsPartOf t (total_terms (length p.columns) (coefficient p i) ray)) (sym e) (part_of i), ray_row i ray h its_ray))
+    pub sums_arise : r < p.nodes → (spread : List ℚ) → ((j : ℕ) → j < length p.columns → at spread j ≡ u j) → (c : Passed) → PassesIn (RowTerms p spread) c → PassesIn (StateTerms p s) c
+    sums_arise small spread same c = carried (RowTerms p spread) (StateTerms p s) c
+        (λ part (i, h, e). (total_terms (length p.columns) (coefficient p i) ray, subst (λ t. IsPartOf t (total_terms (length p.columns) (coefficient p i) ray)) (sym e) (part_of i), ray_row i ray h (its_ray small)))
       where
         part_of : (i : ℕ) → IsPartOf (total_terms (length p.columns) (coefficient p i) (at spread)) (total_terms (length p.columns) (coefficient p i) ray)
         part_of i = record {

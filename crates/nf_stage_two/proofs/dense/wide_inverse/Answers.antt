@@ -47,7 +47,7 @@ returns-in_err-put_column-clause-fault g c =
     out c.as_slice.result.now c.as_slice-in-loop-row.result.now spread c.as_slice-in-loop-row-2.result.now (back row) i.standing i.slots (c.as_slice.ensures.value ∙ e) (c.as_slice-in-loop-row.ensures.value ∙ e) (c.as_slice-in-loop-row-2.ensures.value ∙ f)
     (l ∙ (c.loop-row.by_slot.ok.0 ∙ i.by_slot)) c.in_ok-inverse_column.ensures.weights c.spread_weights.ensures in
     handed_as c.from_residual-in_err-put_column.result _ (IsSecondFaultOf p s) c.from_residual-in_err-put_column.ensures.1
-    (sums_arise p s c.args.state.now.standing x b.problem c.requires.one b.state c.requires.second (g.B.Basis.slots c.args.first.now) c.args.slots.now b.listed c.requires.slots row told.weights told.are_weights c.as_slice-in-loop-row-2.result.now told.givens _ c.in_err-put_column.ensures.passed)
+    (sums_arise p s c.args.state.now.standing x b.problem c.requires.one b.state c.requires.second (g.B.Basis.slots c.args.first.now) c.args.slots.now b.listed c.requires.slots row told.weights told.are_weights (subst (λ z. row < z) c.nodes-row-end.ensures.number c.loop-row-test.true) c.as_slice-in-loop-row-2.result.now told.givens _ c.in_err-put_column.ensures.passed)
 
 pub loop-row-preserved : goal.loop-row-preserved
 loop-row-preserved g c =

@@ -78,9 +78,10 @@ returns-in_err-halt-in-Changes-clause-passed g c =
     let made = c.in_ok-make-in-Changes.ensures.made c.args.rule (change_same p c.args.rule (g.B.Basis.standing here.basis) (g.B.Basis.standing c.look.new.basis) here.cursor (g.B.Basis.slots here.basis) (g.B.Basis.slots c.look.new.basis) c.in_ok-due.due.turn c.in-Changes.change c.in_ok-due.ensures.standing c.in_ok-due.ensures.slots c.in-Changes.is c.in_ok-due.ensures.turn) in
     let step : StepsBy p c.args.rule (point g.B.Basis.standing old) made.0 (point g.B.Basis.standing new) = subst (λ a. StepsBy p c.args.rule a made.0 (point g.B.Basis.standing new)) same made.1 in
     let fresh : c.self-in-Changes.inside.basis ≡ new.basis = search rules in
+    let below : here.pivots < c.args.most = search rules in
     let e = c.in_err-halt-in-Changes.field-0.0 in
     handed_on c.from_residual-in_err-halt-in-Changes.result e _ c.from_residual-in_err-halt-in-Changes.ensures.1
-    (passes_next p c.args.rule c.args.most c.args.pauses.now (point g.B.Basis.standing old) (point g.B.Basis.standing new) made.0 new.pivots e step refl (subst (λ b. PassesIn (StateTerms p (g.B.Basis.standing b)) e) fresh c.in_err-halt-in-Changes.ensures.passed))
+    (passes_next p c.args.rule c.args.most c.args.pauses.now (point g.B.Basis.standing old) (point g.B.Basis.standing new) made.0 new.pivots e (subst (λ n. n < c.args.most) pivots below) step refl (subst (λ b. PassesIn (StateTerms p (g.B.Basis.standing b)) e) fresh c.in_err-halt-in-Changes.ensures.passed))
 
 pub returns-in_ok-halt-in-Changes-clause-turn : goal.returns-in_ok-halt-in-Changes-clause-turn
 returns-in_ok-halt-in-Changes-clause-turn g c =
