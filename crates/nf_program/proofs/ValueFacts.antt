@@ -1,5 +1,5 @@
 -- The reader takes the values that the grammar names.
-use Rattle.std.proofs.Common.{◌≡◌, ℕ, ◌+◌, ◌*◌, ◌-◌, inl, inr, Bool, true, false, cond, ◌&&◌, List, [], ◌∷◌, length, map, Option, Some, None, Result, Ok, Err, refl, sym, ap, ◌∙◌, subst, arith, le-leb}
+use Rattle.std.proofs.Common.{◌≡◌, ℕ, ◌+◌, ◌*◌, ◌-◌, ◌≤◌, inl, inr, Bool, true, false, cond, ◌&&◌, List, [], ◌∷◌, length, map, Option, Some, None, Result, Ok, Err, refl, sym, ap, ◌∙◌, subst, arith, le-leb}
 use Rattle.std.specs.Prelude.{option_map, nat_le, codes}
 use Rattle.std.specs.Result.{result_ok}
 use Rattle.std.specs.List.{list_all}
@@ -21,7 +21,8 @@ use Rattle.nf_program.specs.declared.program.Bound.TheVariants.{Finite, Infinite
 use Rattle.nf_program.specs.declared.program.ConType.{ConType}
 use Rattle.nf_program.specs.declared.program.PriceType.{PriceType}
 use Rattle.nf_program.specs.Values.{lowered, inside, is_name_byte, Fits, IsSetName, IsColumn, IsNode, IsAmount, IsBound, IsCount, IsType, IsRule}
-use Rattle.nf_program.specs.ReadValues.{name_of, set_name_of, column_of, node_name, node_of, amount_of, bound_of, digits_from, count_of, type_of, rule_of}
+use Rattle.nf_program.specs.ReadValues.{name_of, set_name_of, column_of, node_name, node_of, amount_of, bound_of, digits_from, count_of, least_of, most_of, count_within, count_for, type_of, rule_of}
+use Rattle.nf_program.specs.declared.words.CountOption.{CountOption}
 use Rattle.nf_program.proofs.Things.{split_and}
 
 -- ---- optional values
@@ -215,6 +216,25 @@ count_complete n t h =
     ap (λ (k : TokenKind). count_of k t.bytes) h.0
     ∙ ap (λ (b : Bool). cond b (digits_from 0 t.bytes) None) (both (nat_le 1 (length t.bytes)) (nat_le (length t.bytes) 9) two.0 (le-leb (length t.bytes) 9 h.2))
     ∙ digits_by t.bytes 0 two.1 ∙ ap (λ (x : ℕ). Some x) (sym h.3)
+
+-- a count of an option
+within_by : (least most : ℕ) (m : Option ℕ) (n : ℕ) → count_within least most m ≡ Some n → (m ≡ Some n) × (least ≤ n) × (n ≤ most)
+within_by least most None n e = absurd cc
+within_by least most (Some k) n e =
+    let h = passed (nat_le least k && nat_le k most) (Some k) n e in
+    let two = split_and (nat_le least k) (nat_le k most) h.0 in
+    let same = some_same k n h.1 in
+    (h.1, subst (λ (x : ℕ). least ≤ x) same (leb-true least k two.0), subst (λ (x : ℕ). x ≤ most) same (leb-true k most two.1))
+
+pub count_for_sound : (o : CountOption) (n : ℕ) (t : Lexeme) → count_for o t.kind t.bytes ≡ Some n → IsCount n t × (least_of o ≤ n) × (n ≤ most_of o)
+unfolding count_for
+count_for_sound o n t e = let h = within_by (least_of o) (most_of o) (count_of t.kind t.bytes) n e in (count_sound n t h.0, h.1, h.2)
+
+pub count_for_complete : (o : CountOption) (n : ℕ) (t : Lexeme) → IsCount n t × (least_of o ≤ n) × (n ≤ most_of o) → count_for o t.kind t.bytes ≡ Some n
+unfolding count_for
+count_for_complete o n t h =
+    ap (count_within (least_of o) (most_of o)) (count_complete n t h.0)
+    ∙ ap (λ (b : Bool). cond b (Some n) None) (both (nat_le (least_of o) n) (nat_le n (most_of o)) (le-leb (least_of o) n h.1) (le-leb n (most_of o) h.2))
 
 -- ---- types and rules
 

@@ -6,7 +6,7 @@ use Rattle.nf_text.specs.declared.token.Token.{Token}
 use Rattle.nf_text.specs.declared.token.TokenKind.TheVariants.{Word, Equals, Semicolon}
 use Rattle.nf_text.specs.Tokens.{Lexeme, lexemes, AreTokens}
 use Rattle.nf_program.specs.declared.program.Command.{Command}
-use Rattle.nf_program.specs.declared.program.Command.TheVariants.{Run, Check}
+use Rattle.nf_program.specs.declared.program.Command.TheVariants.{Run, Check, Again, Export}
 use Rattle.nf_program.specs.declared.program.ProcOptions.{ProcOptions}
 use Rattle.nf_program.specs.declared.program.Program.{Program}
 use Rattle.nf_program.specs.declared.program.Role.{Role}
@@ -21,7 +21,8 @@ use Rattle.nf_program.specs.declared.settings.Setting.{Setting}
 use Rattle.nf_program.specs.declared.settings.Setting.TheVariants as setting
 use Rattle.nf_program.specs.Words.{statement_of, option_of, print_of, show_of}
 use Rattle.nf_program.specs.Values.{IsSetName, IsColumn, IsNode, IsAmount, IsBound, IsCount, IsType, IsRule}
-use Rattle.nf_program.specs.Settings.{word_of, flag_of, key_of, is_apart, options_of, lacks, reset_setting, save_setting}
+use Rattle.nf_program.specs.ReadValues.{least_of, most_of}
+use Rattle.nf_program.specs.Settings.{word_of, flag_of, key_of, is_apart, options_of, lacks, are_wrong_together, reset_setting, save_setting}
 use Rattle.nf_program.specs.Programs.{AreDistinct, RoleColumns, is_netflow, role_number, takes_list, print_number, show_number, is_quit}
 
 -- ---- tokens
@@ -65,7 +66,7 @@ IsValue (setting.DefCapacity b) v = IsBound b v
 IsValue (setting.DefConType t) v = IsType t v
 IsValue (setting.Node o n) v = IsNode n v
 IsValue (setting.Output o n) v = IsSetName n v
-IsValue (setting.Count o n) v = IsCount n v
+IsValue (setting.Count o n) v = IsCount n v × (least_of o ≤ n) × (n ≤ most_of o)
 IsValue (setting.Rule o r) v = IsRule r v
 IsValue (setting.Flag o) v = ⊥
 IsValue (setting.Switch o b) v = ⊥
@@ -94,7 +95,7 @@ abbrev pub IsNetflow : Command → ProcOptions → List Lexeme → Type 0
 IsNetflow c p body =
     (n : Lexeme) × (options : List Lexeme) × (ss : List Setting)
     × (body ≡ n ∷ options) × (n.kind ≡ Word) × (is_netflow n.bytes ≡ true)
-    × AreSettings ss options × (is_apart ss ≡ true) × (p ≡ options_of ss) × (lacks c p ≡ false)
+    × AreSettings ss options × (is_apart ss ≡ true) × (p ≡ options_of ss) × ((lacks c p ≡ false) × (are_wrong_together p ≡ false))
 
 -- A role takes one column, VAR and ID one or more.
 abbrev pub HasColumns : Role → List (List ℕ) → Type 0
@@ -134,21 +135,23 @@ IsAct act.Quit ts = IsStatement word.Quit IsNothing ts
 abbrev pub AreSemicolons : List Lexeme → Type 0
 AreSemicolons ts = AllByRecursion IsSemicolon ts
 
--- The tokens are these statements in their order, with lone semicolons before each and behind the last.
+-- The tokens are these statements in their order, with lone semicolons before each and after the last.
 abbrev pub Statements : {A : Type 0} → (A → List Lexeme → Type 0) → List A → List Lexeme → Type 0
 Statements Is [] ts = AreSemicolons ts
 Statements Is (x ∷ xs) ts =
     (lone : List Lexeme) × (front : List Lexeme) × (back : List Lexeme) × (ts ≡ lone ++ (front ++ back)) × AreSemicolons lone × Is x front × Statements Is xs back
 
--- Nothing stands behind QUIT.
+-- Nothing stands after QUIT.
 abbrev pub QuitIsLast : List Statement → Type 0
 QuitIsLast [] = Unit {0}
 QuitIsLast (a ∷ others) = (is_quit a ≡ true → others ≡ []) × QuitIsLast others
 
--- `check` takes no other act than QUIT.
+-- Each command but `run` accepts no other act than QUIT.
 abbrev pub Serves : Command → List Statement → Type 0
 Serves Run acts = Unit {0}
 Serves Check acts = AllByRecursion (λ a. is_quit a ≡ true) acts
+Serves Again acts = AllByRecursion (λ a. is_quit a ≡ true) acts
+Serves Export acts = AllByRecursion (λ a. is_quit a ≡ true) acts
 
 -- the number of a role statement's role
 abbrev pub role_key : RoleColumns → ℕ

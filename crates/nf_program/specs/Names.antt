@@ -1,4 +1,4 @@
--- How a name is kept: its bytes at the front of 32, and how many there are. Contracts see the bytes alone.
+-- How a name is kept: its bytes at the front of 32, and how many there are. Contracts see only the bytes.
 use Rattle.std.specs.Prelude.{◌≡◌, ℕ, ◌-◌, ◌≤◌, List, ◌++◌, length, take, replicate}
 use Rattle.nf_program.specs.declared.items.Name.TheInside.{Inside}
 
@@ -14,7 +14,7 @@ filled bs = bs ++ replicate (32 - length bs) 0
 abbrev pub from_bytes : List ℕ → Inside
 from_bytes bs = record { all = filled bs; len = length bs }
 
--- A name has 1 to 32 bytes, and zeros behind them.
+-- A name has 1 to 32 bytes, and zeros after them.
 pub record IsName (n : Inside) : Type 0 where
   pub some : 1 ≤ n.len
   pub short : n.len ≤ 32

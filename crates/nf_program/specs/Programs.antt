@@ -85,6 +85,8 @@ print_number print.Arcs = 2
 print_number print.Nonarcs = 3
 print_number print.Nodes = 4
 print_number print.Constraints = 5
+print_number print.Costranges = 6
+print_number print.Rhsranges = 7
 
 -- The item is among those given.
 abbrev pub has_print : PrintItem → List PrintItem → Bool

@@ -12,6 +12,8 @@ use Rattle.nf_program.specs.declared.program.Bound.{Bound}
 use Rattle.nf_program.specs.declared.program.Bound.TheVariants.{Finite, Infinite}
 use Rattle.nf_program.specs.declared.program.ConType.{ConType}
 use Rattle.nf_program.specs.declared.program.PriceType.{PriceType}
+use Rattle.nf_program.specs.declared.words.CountOption.{CountOption}
+use Rattle.nf_program.specs.declared.words.CountOption.TheVariants as count
 use Rattle.nf_program.specs.Words.{con_type_of, price_type_of}
 use Rattle.nf_program.specs.Values.{lowered, inside, is_name_byte}
 
@@ -46,7 +48,7 @@ unfoldable pub amount_of : TokenKind → List ℕ → Option Amount
 amount_of Number bs = result_ok (amount_read bs)
 amount_of _ bs = None
 
--- No bound, where the word is INF.
+-- No bound, if the word is INF.
 abbrev pub infinite : List ℕ → Option Bound
 infinite bs = if str_eq_ignore_ascii_case (codes "INF") bs then Some Infinite else None
 
@@ -56,7 +58,7 @@ bound_of Number bs = option_map Finite (result_ok (amount_read bs))
 bound_of Word bs = infinite bs
 bound_of _ bs = None
 
--- the number that n becomes as these digits are written behind it
+-- the number that n becomes as these digits are written after it
 abbrev pub digits_from : ℕ → List ℕ → Option ℕ
 digits_from n [] = Some n
 digits_from n (b ∷ bs) = if is_ascii_digit b then digits_from (10 * n + (b - 48)) bs else None
@@ -65,6 +67,26 @@ digits_from n (b ∷ bs) = if is_ascii_digit b then digits_from (10 * n + (b - 4
 unfoldable pub count_of : TokenKind → List ℕ → Option ℕ
 count_of Number bs = if nat_le 1 (length bs) && nat_le (length bs) 9 then digits_from 0 bs else None
 count_of _ bs = None
+
+-- The least and the most count of an option.
+abbrev pub least_of : CountOption → ℕ
+least_of count.QueueSize1 = 1
+least_of count.QueueSize2 = 1
+least_of _ = 0
+
+abbrev pub most_of : CountOption → ℕ
+most_of count.QueueSize1 = 999
+most_of count.QueueSize2 = 999
+most_of _ = 999_999_999
+
+-- A count that the option accepts.
+abbrev pub count_within : ℕ → ℕ → Option ℕ → Option ℕ
+count_within least most None = None
+count_within least most (Some n) = if nat_le least n && nat_le n most then Some n else None
+
+-- The count of an option that a token is.
+unfoldable pub count_for : CountOption → TokenKind → List ℕ → Option ℕ
+count_for o k bs = count_within (least_of o) (most_of o) (count_of k bs)
 
 -- The type of a constraint that a token is.
 unfoldable pub type_of : TokenKind → List ℕ → Option ConType

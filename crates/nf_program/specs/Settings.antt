@@ -3,7 +3,7 @@ use Rattle.std.specs.Prelude.{ℕ, Bool, true, false, ◌&&◌, ◌||◌, not, L
 use Rattle.std.specs.List.{list_any, fold, flat_map}
 use Rattle.nf_frac.specs.declared.amount.Amount.{Amount}
 use Rattle.nf_program.specs.declared.program.Command.{Command}
-use Rattle.nf_program.specs.declared.program.Command.TheVariants.{Run, Check}
+use Rattle.nf_program.specs.declared.program.Command.TheVariants.{Run, Check, Again, Export}
 use Rattle.nf_program.specs.declared.program.ProcOptions.{ProcOptions}
 use Rattle.nf_program.specs.declared.program.SessionOptions.{SessionOptions}
 use Rattle.nf_program.specs.declared.program.ResetOption.{ResetOption}
@@ -47,7 +47,7 @@ word_of (setting.Count o n) = option.Count o
 word_of (setting.Switch o b) = option.Switch o b
 word_of (setting.Rule o r) = option.Rule o
 
--- the setting that a word is alone, where it takes no value
+-- the setting that a word is alone, if it takes no value
 abbrev pub flag_of : OptionWord → Option Setting
 flag_of (option.Flag o) = Some (setting.Flag o)
 flag_of (option.Switch o b) = Some (setting.Switch o b)
@@ -69,55 +69,59 @@ flag_key flag.SparseConData = 7
 flag_key flag.Thrunet = 8
 flag_key flag.Maximize = 9
 flag_key flag.Warm = 10
+flag_key flag.MaxFlow = 11
+flag_key flag.ShortPath = 12
 
 -- The number of an option with an amount.
 abbrev pub amount_key : AmountOption → ℕ
-amount_key amount.DefCost = 11
-amount_key amount.DefMinFlow = 12
-amount_key amount.Supply = 17
-amount_key amount.Demand = 18
+amount_key amount.DefCost = 13
+amount_key amount.DefMinFlow = 14
+amount_key amount.Supply = 19
+amount_key amount.Demand = 20
 
 -- The number of an option with a node.
 abbrev pub node_key : NodeOption → ℕ
-node_key node.Source = 15
-node_key node.Sink = 16
+node_key node.Source = 17
+node_key node.Sink = 18
 
 -- The number of an output option.
 abbrev pub out_key : OutOption → ℕ
-out_key out.Arcout = 19
-out_key out.Nodeout = 20
-out_key out.Conout = 21
-out_key out.Dualout = 22
-out_key out.Sessionout = 23
-out_key out.Certout = 24
+out_key out.Arcout = 21
+out_key out.Nodeout = 22
+out_key out.Conout = 23
+out_key out.Dualout = 24
+out_key out.Sessionout = 25
+out_key out.Certout = 26
 
 -- The number of an option with a count.
 abbrev pub count_key : CountOption → ℕ
-count_key count.Maxit1 = 25
-count_key count.Maxit2 = 26
-count_key count.Pause1 = 27
-count_key count.Pause2 = 28
+count_key count.Maxit1 = 27
+count_key count.Maxit2 = 28
+count_key count.Pause1 = 29
+count_key count.Pause2 = 30
+count_key count.QueueSize1 = 43
+count_key count.QueueSize2 = 44
 
 -- The number of a flag of the session.
 abbrev pub switch_key : SwitchOption → ℕ
-switch_key switch.FeasiblePause1 = 29
-switch_key switch.FeasiblePause2 = 31
-switch_key switch.EndPause1 = 33
-switch_key switch.Future1 = 35
-switch_key switch.Future2 = 37
+switch_key switch.FeasiblePause1 = 31
+switch_key switch.FeasiblePause2 = 33
+switch_key switch.EndPause1 = 35
+switch_key switch.Future1 = 37
+switch_key switch.Future2 = 39
 
 -- The number of an option with a rule.
 abbrev pub rule_key : RuleOption → ℕ
-rule_key rule.PriceType1 = 39
-rule_key rule.PriceType2 = 40
+rule_key rule.PriceType1 = 41
+rule_key rule.PriceType2 = 42
 
 -- The number of an option, in the order of PROC's canonical text. A flag and its NO form are one option.
 abbrev pub option_key : OptionWord → ℕ
 option_key (option.Input o) = input_key o
 option_key (option.Flag o) = flag_key o
 option_key (option.Amount o) = amount_key o
-option_key option.DefCapacity = 13
-option_key option.DefConType = 14
+option_key option.DefCapacity = 15
+option_key option.DefConType = 16
 option_key (option.Node o) = node_key o
 option_key (option.Output o) = out_key o
 option_key (option.Count o) = count_key o
@@ -159,7 +163,7 @@ is_apart ss = not (list_any is_warm_setting ss && list_any is_session_setting ss
 
 -- ---- the options of PROC
 
--- the session options where none is given
+-- the session options if none is given
 abbrev pub defaults : SessionOptions
 defaults = record {
   maxit1 = 1000000;
@@ -173,9 +177,11 @@ defaults = record {
   future2 = false;
   pricetype1 = price.First;
   pricetype2 = price.First;
+  queuesize1 = 10;
+  queuesize2 = 10;
 }
 
--- the options of PROC where none is given
+-- the options of PROC if none is given
 abbrev pub no_options : ProcOptions
 no_options = record {
   arcdata = None;
@@ -195,6 +201,8 @@ no_options = record {
   thrunet = false;
   maximize = false;
   warm = false;
+  maxflow = false;
+  shortpath = false;
   defcost = None;
   defminflow = None;
   defcapacity = None;
@@ -222,6 +230,8 @@ with_flag flag.SparseConData p = record p { sparsecondata = true }
 with_flag flag.Thrunet p = record p { thrunet = true }
 with_flag flag.Maximize p = record p { maximize = true }
 with_flag flag.Warm p = record p { warm = true }
+with_flag flag.MaxFlow p = record p { maxflow = true }
+with_flag flag.ShortPath p = record p { shortpath = true }
 
 -- PROC with an amount.
 abbrev pub with_amount : AmountOption → Amount → ProcOptions → ProcOptions
@@ -250,6 +260,8 @@ with_count count.Maxit1 n s = record s { maxit1 = n }
 with_count count.Maxit2 n s = record s { maxit2 = n }
 with_count count.Pause1 n s = record s { pause1 = n }
 with_count count.Pause2 n s = record s { pause2 = n }
+with_count count.QueueSize1 n s = record s { queuesize1 = n }
+with_count count.QueueSize2 n s = record s { queuesize2 = n }
 
 -- The session with a flag, or with its NO form.
 abbrev pub with_switch : SwitchOption → Bool → SessionOptions → SessionOptions
@@ -291,15 +303,25 @@ lacks_warm p =
 abbrev pub lacks_partner : ProcOptions → Bool
 lacks_partner p =
     (is_some p.supply && not (is_some p.source)) || (is_some p.demand && not (is_some p.sink)) || (p.sparsecondata && not (is_some p.condata))
+    || ((p.maxflow || p.shortpath) && not (is_some p.source && is_some p.sink))
 
--- A data set is needed and not named: ARCDATA=, and for `check` CERTDATA=.
+-- What a command needs is not there: ARCDATA=, for `check` CERTDATA=, and for `again` WARM.
 abbrev pub lacks_set : Command → ProcOptions → Bool
 lacks_set Run p = not (is_some p.arcdata)
 lacks_set Check p = not (is_some p.arcdata) || not (is_some p.certdata)
+lacks_set Again p = not (is_some p.arcdata) || not p.warm
+lacks_set Export p = not (is_some p.arcdata)
 
 -- PROC lacks an option that it may not end without.
 unfoldable pub lacks : Command → ProcOptions → Bool
 lacks c p = lacks_set c p || lacks_warm p || lacks_partner p
+
+-- MAXFLOW and SHORTPATH do not stand together, nor one of them beside an option that speaks of another problem.
+unfoldable pub are_wrong_together : ProcOptions → Bool
+are_wrong_together p =
+    (p.maxflow && p.shortpath)
+    || ((p.maxflow || p.shortpath)
+    && (is_some p.condata || is_some p.nodedata || is_some p.supply || is_some p.demand || p.thrunet || p.maximize || p.warm))
 
 -- ---- the options of RESET and SAVE
 
@@ -309,6 +331,8 @@ reset_count count.Maxit1 n = reset.Maxit1 n
 reset_count count.Maxit2 n = reset.Maxit2 n
 reset_count count.Pause1 n = reset.Pause1 n
 reset_count count.Pause2 n = reset.Pause2 n
+reset_count count.QueueSize1 n = reset.QueueSize1 n
+reset_count count.QueueSize2 n = reset.QueueSize2 n
 
 -- An option of RESET that is a flag.
 abbrev pub reset_switch : SwitchOption → Bool → ResetOption
@@ -323,7 +347,7 @@ abbrev pub reset_rule : RuleOption → PriceType → ResetOption
 reset_rule rule.PriceType1 r = reset.PriceType1 r
 reset_rule rule.PriceType2 r = reset.PriceType2 r
 
--- the setting as an option of RESET, where it is one
+-- the setting as an option of RESET, if it is one
 abbrev pub resets_in : Setting → List ResetOption
 resets_in (setting.Count o n) = reset_count o n ∷ []
 resets_in (setting.Switch o b) = reset_switch o b ∷ []
@@ -347,8 +371,10 @@ reset_setting (reset.Future1 b) = setting.Switch switch.Future1 b
 reset_setting (reset.Future2 b) = setting.Switch switch.Future2 b
 reset_setting (reset.PriceType1 r) = setting.Rule rule.PriceType1 r
 reset_setting (reset.PriceType2 r) = setting.Rule rule.PriceType2 r
+reset_setting (reset.QueueSize1 n) = setting.Count count.QueueSize1 n
+reset_setting (reset.QueueSize2 n) = setting.Count count.QueueSize2 n
 
--- the setting as an option of SAVE, where it is one
+-- the setting as an option of SAVE, if it is one
 abbrev pub saves_in : Setting → List SaveItem
 saves_in (setting.Output o n) = record { option = o; name = n } ∷ []
 saves_in _ = []

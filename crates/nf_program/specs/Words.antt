@@ -41,6 +41,7 @@ options =
     option.Input input.Arcdata ∷ option.Input input.Nodedata ∷ option.Input input.Condata ∷ option.Input input.Certdata
     ∷ option.Input input.Conin ∷ option.Input input.Dualin ∷ option.Input input.Sessiondata
     ∷ option.Flag flag.SparseConData ∷ option.Flag flag.Thrunet ∷ option.Flag flag.Maximize ∷ option.Flag flag.Warm
+    ∷ option.Flag flag.MaxFlow ∷ option.Flag flag.ShortPath
     ∷ option.Amount amount.DefCost ∷ option.Amount amount.DefMinFlow ∷ option.DefCapacity ∷ option.DefConType
     ∷ option.Node node.Source ∷ option.Node node.Sink ∷ option.Amount amount.Supply ∷ option.Amount amount.Demand
     ∷ option.Output out.Arcout ∷ option.Output out.Nodeout ∷ option.Output out.Conout ∷ option.Output out.Dualout
@@ -51,23 +52,23 @@ options =
     ∷ option.Switch switch.EndPause1 true ∷ option.Switch switch.EndPause1 false
     ∷ option.Switch switch.Future1 true ∷ option.Switch switch.Future1 false
     ∷ option.Switch switch.Future2 true ∷ option.Switch switch.Future2 false
-    ∷ option.Rule rule.PriceType1 ∷ option.Rule rule.PriceType2 ∷ []
+    ∷ option.Rule rule.PriceType1 ∷ option.Rule rule.PriceType2 ∷ option.Count count.QueueSize1 ∷ option.Count count.QueueSize2 ∷ []
 
 -- The items of the PRINT words.
 unfoldable pub print_items : List PrintItem
-print_items = print.Problem ∷ print.Solution ∷ print.Arcs ∷ print.Nonarcs ∷ print.Nodes ∷ print.Constraints ∷ []
+print_items = print.Problem ∷ print.Solution ∷ print.Arcs ∷ print.Nonarcs ∷ print.Nodes ∷ print.Constraints ∷ print.Costranges ∷ print.Rhsranges ∷ []
 
 -- The items of the SHOW words.
 unfoldable pub show_items : List ShowItem
 show_items = show.Status ∷ show.Problem ∷ show.Options ∷ []
 
--- the types of constraints; the kinds behind them are types of data rows
+-- the types of constraints; the kinds after them are types of data rows
 unfoldable pub con_types : List ConType
 con_types = con.Le ∷ con.Ge ∷ con.Eq ∷ []
 
 -- The rules of the rule words.
 unfoldable pub price_types : List PriceType
-price_types = price.First ∷ price.Best ∷ price.Bland ∷ []
+price_types = price.First ∷ price.Best ∷ price.Bland ∷ price.Queue ∷ []
 
 -- ---- what a word is
 

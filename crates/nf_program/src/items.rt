@@ -17,7 +17,7 @@ impl<T> Model for Items<T> {
 }
 
 impl<T: Drop> Items<T> {
-    ghost use Rattle.std.specs.Prelude.{◌≡◌, List, [], ◌∷◌, ◌++◌, OnOk};
+    ghost use Rattle.std.specs.Prelude.{◌≡◌, List, [], ◌∷◌, ◌++◌, OnOk, OnErr};
     ghost use Rattle.nf_program.specs.Programs.{is_empty};
 
     /// A list without items.
@@ -29,9 +29,10 @@ impl<T: Drop> Items<T> {
         }
     }
 
-    /// Adds an item at the end.
+    /// Adds an item at the end. Out of memory, the list stays as it was.
     pub fn push(&mut self, item: T) -> Result<(), AllocError>
-        ensures { OnOk result (self.new ≡ self.old ++ item ∷ []) }
+        ensures added { OnOk result (self.new ≡ self.old ++ item ∷ []) }
+        ensures kept { OnErr result (self.new ≡ self.old) }
     {
         self.items.push(item)?;
         Ok(())
@@ -57,7 +58,7 @@ const MOST: usize = 32;
 
 /// The name of a data set, a column or a node: a list of 1 to 32 bytes.
 ///
-/// It holds no memory of its own. The bytes behind the name are 0.
+/// It holds no memory of its own. The bytes after the name are 0.
 #[derive(Clone, Copy)]
 pub struct Name {
     all: [u8; 32],
@@ -84,7 +85,7 @@ impl Name {
     ghost use Rattle.nf_program.specs.Values.{lowered};
     ghost use Rattle.nf_program.specs.ReadValues.{name_of};
 
-    /// The name of these bytes; None where they are none or more than 32.
+    /// The name of these bytes; None if they are none or more than 32.
     pub fn new(bytes: &[u8]) -> Option<Name>
         ensures { result ≡ name_of bytes.now }
     {

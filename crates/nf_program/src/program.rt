@@ -16,6 +16,10 @@ pub enum Command {
     Run,
     /// A certificate is looked at: CERTDATA= is needed, and QUIT is the one act.
     Check,
+    /// A saved basis is used on changed data: WARM is needed, and QUIT is the one act.
+    Again,
+    /// The problem is written as another text: QUIT is the one act.
+    Export,
 }
 
 /// A program: its PROC statement, its role statements and its acts, each in the order written.
@@ -79,7 +83,7 @@ pub struct ProcOptions {
     pub sessionout: Option<Name>,
     /// CERTOUT=.
     pub certout: Option<Name>,
-    /// SPARSECONDATA, which comes with CONDATA= alone.
+    /// SPARSECONDATA, which comes only with CONDATA=.
     pub sparsecondata: bool,
     /// THRUNET.
     pub thrunet: bool,
@@ -87,6 +91,10 @@ pub struct ProcOptions {
     pub maximize: bool,
     /// WARM, which comes with CONIN=, DUALIN= and SESSIONDATA=, and without session options.
     pub warm: bool,
+    /// MAXFLOW, which comes with SOURCE= and SINK=.
+    pub maxflow: bool,
+    /// SHORTPATH, which comes with SOURCE= and SINK=.
+    pub shortpath: bool,
     /// DEFCOST=.
     pub defcost: Option<Amount>,
     /// DEFMINFLOW=.
@@ -99,9 +107,9 @@ pub struct ProcOptions {
     pub source: Option<Name>,
     /// SINK=, a node.
     pub sink: Option<Name>,
-    /// SUPPLY=, which comes with SOURCE= alone.
+    /// SUPPLY=, which comes only with SOURCE=.
     pub supply: Option<Amount>,
-    /// DEMAND=, which comes with SINK= alone.
+    /// DEMAND=, which comes only with SINK=.
     pub demand: Option<Amount>,
     /// The session options.
     pub session: SessionOptions,
@@ -110,13 +118,13 @@ pub struct ProcOptions {
 /// The session options. One that is not given has its default.
 #[derive(Clone, Copy, Debug, PartialEq, Eq)]
 pub struct SessionOptions {
-    /// MAXIT1=, 1000000 where it is not given.
+    /// MAXIT1=, 1000000 if it is not given.
     pub maxit1: u32,
-    /// MAXIT2=, 1000000 where it is not given.
+    /// MAXIT2=, 1000000 if it is not given.
     pub maxit2: u32,
-    /// PAUSE1=, 0 where it is not given.
+    /// PAUSE1=, 0 if it is not given.
     pub pause1: u32,
-    /// PAUSE2=, 0 where it is not given.
+    /// PAUSE2=, 0 if it is not given.
     pub pause2: u32,
     /// FEASIBLEPAUSE1.
     pub feasiblepause1: bool,
@@ -128,10 +136,14 @@ pub struct SessionOptions {
     pub future1: bool,
     /// FUTURE2.
     pub future2: bool,
-    /// PRICETYPE1=, FIRST where it is not given.
+    /// PRICETYPE1=, FIRST if it is not given.
     pub pricetype1: PriceType,
-    /// PRICETYPE2=, FIRST where it is not given.
+    /// PRICETYPE2=, FIRST if it is not given.
     pub pricetype2: PriceType,
+    /// QUEUESIZE1=, 10 if it is not given.
+    pub queuesize1: u32,
+    /// QUEUESIZE2=, 10 if it is not given.
+    pub queuesize2: u32,
 }
 
 /// An upper bound.
@@ -163,6 +175,8 @@ pub enum PriceType {
     Best,
     /// BLAND.
     Bland,
+    /// QUEUE.
+    Queue,
 }
 
 /// What a role statement names the column of. `ArcName` is NAME, and `ConKind` is TYPE.
@@ -232,6 +246,8 @@ pub enum ResetOption {
     Future2(bool),
     PriceType1(PriceType),
     PriceType2(PriceType),
+    QueueSize1(u32),
+    QueueSize2(u32),
 }
 
 /// An item of PRINT.
@@ -243,6 +259,8 @@ pub enum PrintItem {
     Nonarcs,
     Nodes,
     Constraints,
+    Costranges,
+    Rhsranges,
 }
 
 impl PrintItem {
@@ -309,7 +327,7 @@ pub struct StmtFault {
     pub kind: StmtKind,
 }
 
-/// What is wrong. Where two kinds come at one place, the one that stands higher here is told.
+/// What is wrong. If two kinds come at one place, the one that stands higher here is reported.
 #[derive(Clone, Copy, Debug, PartialEq, Eq)]
 pub enum StmtKind {
     /// A byte that begins no token, or that may not stand in quotes. The three faults of tokens come before all others.
@@ -334,6 +352,8 @@ pub enum StmtKind {
     WrongValue,
     /// An option that PROC may not end without: PROC's semicolon.
     MissingOption,
+    /// Options of PROC that may not stand together: PROC's semicolon.
+    WrongTogether,
     /// A statement that may not stand here.
     StatementOrder,
     /// There was no memory; the place is then 0.
@@ -356,6 +376,7 @@ impl fmt::Display for StmtKind {
             StmtKind::RepeatedOption => write!(f, "RepeatedOption"),
             StmtKind::WrongValue => write!(f, "WrongValue"),
             StmtKind::MissingOption => write!(f, "MissingOption"),
+            StmtKind::WrongTogether => write!(f, "WrongTogether"),
             StmtKind::StatementOrder => write!(f, "StatementOrder"),
             StmtKind::NoMemory => write!(f, "NoMemory"),
         }

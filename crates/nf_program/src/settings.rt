@@ -1,7 +1,7 @@
 //! Options with their values, and what they make of PROC.
 ghost use Rattle.std.specs.Prelude.{◌≡◌, ◌++◌, ◌&&◌, OnOk, IfOk, nat_eq};
 ghost use Rattle.std.specs.List.{list_any};
-ghost use Rattle.nf_program.specs.Settings.{word_of, key_of, with_input, with_flag, with_amount, with_node, with_output, with_count, with_switch, with_rule, with_setting, options_of, no_options, defaults, lacks, lacks_set, lacks_warm, lacks_partner, reset_count, reset_switch, reset_rule, resets_in, resets_of, saves_in, saves_of, is_session, is_session_setting, is_output, is_warm, is_warm_setting, flag_of, option_key, amount_key};
+ghost use Rattle.nf_program.specs.Settings.{word_of, key_of, with_input, with_flag, with_amount, with_node, with_output, with_count, with_switch, with_rule, with_setting, options_of, no_options, defaults, lacks, lacks_set, lacks_warm, lacks_partner, reset_count, reset_switch, reset_rule, resets_in, resets_of, saves_in, saves_of, is_session, is_session_setting, is_output, is_warm, is_warm_setting, flag_of, option_key, amount_key, count_key, are_wrong_together};
 
 use crate::items::{Items, Name};
 use crate::program::{
@@ -51,7 +51,7 @@ impl Setting {
 }
 
 impl OptionWord {
-    /// The setting that the word is alone, where it takes no value.
+    /// The setting that the word is alone, if it takes no value.
     pub fn flag(self) -> Option<Setting>
         ensures { result ≡ flag_of self }
     {
@@ -70,13 +70,13 @@ impl OptionWord {
             OptionWord::Input(option) => option as u8,
             OptionWord::Flag(option) => 7 + option as u8,
             OptionWord::Amount(option) => option.key(),
-            OptionWord::DefCapacity => 13,
-            OptionWord::DefConType => 14,
-            OptionWord::Node(option) => 15 + option as u8,
-            OptionWord::Output(option) => 19 + option as u8,
-            OptionWord::Count(option) => 25 + option as u8,
-            OptionWord::Switch(option, _) => 29 + 2 * option as u8,
-            OptionWord::Rule(option) => 39 + option as u8,
+            OptionWord::DefCapacity => 15,
+            OptionWord::DefConType => 16,
+            OptionWord::Node(option) => 17 + option as u8,
+            OptionWord::Output(option) => 21 + option as u8,
+            OptionWord::Count(option) => option.key(),
+            OptionWord::Switch(option, _) => 31 + 2 * option as u8,
+            OptionWord::Rule(option) => 41 + option as u8,
         }
     }
 }
@@ -86,15 +86,30 @@ impl AmountOption {
         ensures { result ≡ amount_key self }
     {
         match self {
-            AmountOption::DefCost => 11,
-            AmountOption::DefMinFlow => 12,
-            AmountOption::Supply => 17,
-            AmountOption::Demand => 18,
+            AmountOption::DefCost => 13,
+            AmountOption::DefMinFlow => 14,
+            AmountOption::Supply => 19,
+            AmountOption::Demand => 20,
         }
     }
 }
 
-/// The options of PROC where none is given.
+impl CountOption {
+    fn key(self) -> u8
+        ensures { result ≡ count_key self }
+    {
+        match self {
+            CountOption::Maxit1 => 27,
+            CountOption::Maxit2 => 28,
+            CountOption::Pause1 => 29,
+            CountOption::Pause2 => 30,
+            CountOption::QueueSize1 => 43,
+            CountOption::QueueSize2 => 44,
+        }
+    }
+}
+
+/// The options of PROC if none is given.
 pub fn no_options() -> ProcOptions
     ensures { result ≡ no_options }
 {
@@ -116,6 +131,8 @@ pub fn no_options() -> ProcOptions
         thrunet: false,
         maximize: false,
         warm: false,
+        maxflow: false,
+        shortpath: false,
         defcost: None,
         defminflow: None,
         defcapacity: None,
@@ -128,7 +145,7 @@ pub fn no_options() -> ProcOptions
     }
 }
 
-/// The session options where none is given.
+/// The session options if none is given.
 pub const DEFAULTS: SessionOptions = SessionOptions {
     maxit1: 1_000_000,
     maxit2: 1_000_000,
@@ -141,6 +158,8 @@ pub const DEFAULTS: SessionOptions = SessionOptions {
     future2: false,
     pricetype1: PriceType::First,
     pricetype2: PriceType::First,
+    queuesize1: 10,
+    queuesize2: 10,
 };
 
 fn with_input(option: InputOption, name: Name, mut p: ProcOptions) -> ProcOptions
@@ -166,6 +185,8 @@ fn with_flag(option: FlagOption, mut p: ProcOptions) -> ProcOptions
         FlagOption::Thrunet => p.thrunet = true,
         FlagOption::Maximize => p.maximize = true,
         FlagOption::Warm => p.warm = true,
+        FlagOption::MaxFlow => p.maxflow = true,
+        FlagOption::ShortPath => p.shortpath = true,
     }
     p
 }
@@ -214,6 +235,8 @@ fn with_count(option: CountOption, n: u32, mut s: SessionOptions) -> SessionOpti
         CountOption::Maxit2 => s.maxit2 = n,
         CountOption::Pause1 => s.pause1 = n,
         CountOption::Pause2 => s.pause2 = n,
+        CountOption::QueueSize1 => s.queuesize1 = n,
+        CountOption::QueueSize2 => s.queuesize2 = n,
     }
     s
 }
@@ -302,6 +325,7 @@ fn lacks_partner(p: &ProcOptions) -> bool
     (p.supply.is_some() && !p.source.is_some())
         || (p.demand.is_some() && !p.sink.is_some())
         || (p.sparsecondata && !p.condata.is_some())
+        || ((p.maxflow || p.shortpath) && !(p.source.is_some() && p.sink.is_some()))
 }
 
 fn lacks_set(command: Command, p: &ProcOptions) -> bool
@@ -310,6 +334,8 @@ fn lacks_set(command: Command, p: &ProcOptions) -> bool
     match command {
         Command::Run => !p.arcdata.is_some(),
         Command::Check => !p.arcdata.is_some() || !p.certdata.is_some(),
+        Command::Again => !p.arcdata.is_some() || !p.warm,
+        Command::Export => !p.arcdata.is_some(),
     }
 }
 
@@ -321,6 +347,22 @@ pub fn lacks(command: Command, p: &ProcOptions) -> bool
     lacks_set(command, p) || lacks_warm(p) || lacks_partner(p)
 }
 
+/// Whether options of PROC may not stand together: MAXFLOW and SHORTPATH, or one of them beside an option that it excludes.
+#[tactic(auto, unfolding(crate::specs::Settings::are_wrong_together))]
+pub fn are_wrong_together(p: &ProcOptions) -> bool
+    ensures { result ≡ are_wrong_together p.now }
+{
+    (p.maxflow && p.shortpath)
+        || ((p.maxflow || p.shortpath)
+            && (p.condata.is_some()
+                || p.nodedata.is_some()
+                || p.supply.is_some()
+                || p.demand.is_some()
+                || p.thrunet
+                || p.maximize
+                || p.warm))
+}
+
 fn reset_count(option: CountOption, n: u32) -> ResetOption
     ensures { result ≡ reset_count option n }
 {
@@ -329,6 +371,8 @@ fn reset_count(option: CountOption, n: u32) -> ResetOption
         CountOption::Maxit2 => ResetOption::Maxit2(n),
         CountOption::Pause1 => ResetOption::Pause1(n),
         CountOption::Pause2 => ResetOption::Pause2(n),
+        CountOption::QueueSize1 => ResetOption::QueueSize1(n),
+        CountOption::QueueSize2 => ResetOption::QueueSize2(n),
     }
 }
 

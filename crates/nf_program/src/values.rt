@@ -4,11 +4,11 @@ ghost use Rattle.std.specs.Result.{result_ok};
 ghost use Rattle.std.specs.List.{list_all};
 ghost use Rattle.nf_frac.specs.Amounts.{amount_read};
 ghost use Rattle.nf_program.specs.Values.{inside, is_name_byte};
-ghost use Rattle.nf_program.specs.ReadValues.{set_name_of, column_of, node_name, node_of, amount_of, infinite, bound_of, digits_from, count_of, type_of, rule_of};
+ghost use Rattle.nf_program.specs.ReadValues.{set_name_of, column_of, node_name, node_of, amount_of, infinite, bound_of, digits_from, count_of, least_of, most_of, count_for, type_of, rule_of};
 
 use crate::items::Name;
 use crate::program::{Bound, ConType, PriceType};
-use crate::words::{con_type_of, price_type_of};
+use crate::words::{CountOption, con_type_of, price_type_of};
 use nf_frac::{Amount, read_amount};
 use nf_text::TokenKind;
 
@@ -161,6 +161,41 @@ pub fn count_of(kind: TokenKind, bytes: &[u8]) -> Option<u32>
             }
         }
         _ => None,
+    }
+}
+
+fn least_of(option: CountOption) -> u32
+    ensures { result ≡ least_of option }
+{
+    match option {
+        CountOption::QueueSize1 | CountOption::QueueSize2 => 1,
+        _ => 0,
+    }
+}
+
+fn most_of(option: CountOption) -> u32
+    ensures { result ≡ most_of option }
+{
+    match option {
+        CountOption::QueueSize1 | CountOption::QueueSize2 => 999,
+        _ => 999_999_999,
+    }
+}
+
+/// A count of this option: QUEUESIZE1= and QUEUESIZE2= accept 1 to 999.
+#[tactic(auto, unfolding(crate::specs::ReadValues::count_for))]
+pub fn count_for(option: CountOption, kind: TokenKind, bytes: &[u8]) -> Option<u32>
+    ensures { result ≡ count_for option kind bytes.now }
+{
+    match count_of(kind, bytes) {
+        Some(n) => {
+            if least_of(option) <= n && n <= most_of(option) {
+                Some(n)
+            } else {
+                None
+            }
+        }
+        None => None,
     }
 }
 

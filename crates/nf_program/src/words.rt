@@ -54,6 +54,8 @@ pub enum FlagOption {
     Thrunet,
     Maximize,
     Warm,
+    MaxFlow,
+    ShortPath,
 }
 
 /// An option of PROC with an amount.
@@ -79,6 +81,8 @@ pub enum CountOption {
     Maxit2,
     Pause1,
     Pause2,
+    QueueSize1,
+    QueueSize2,
 }
 
 /// A session option that is a flag.
@@ -128,7 +132,7 @@ const STATEMENTS: [StatementWord; 25] = [
 ];
 
 /// The words of options, in the order of their list.
-const OPTIONS: [OptionWord; 41] = [
+const OPTIONS: [OptionWord; 45] = [
     OptionWord::Input(InputOption::Arcdata),
     OptionWord::Input(InputOption::Nodedata),
     OptionWord::Input(InputOption::Condata),
@@ -140,6 +144,8 @@ const OPTIONS: [OptionWord; 41] = [
     OptionWord::Flag(FlagOption::Thrunet),
     OptionWord::Flag(FlagOption::Maximize),
     OptionWord::Flag(FlagOption::Warm),
+    OptionWord::Flag(FlagOption::MaxFlow),
+    OptionWord::Flag(FlagOption::ShortPath),
     OptionWord::Amount(AmountOption::DefCost),
     OptionWord::Amount(AmountOption::DefMinFlow),
     OptionWord::DefCapacity,
@@ -170,22 +176,31 @@ const OPTIONS: [OptionWord; 41] = [
     OptionWord::Switch(SwitchOption::Future2, false),
     OptionWord::Rule(RuleOption::PriceType1),
     OptionWord::Rule(RuleOption::PriceType2),
+    OptionWord::Count(CountOption::QueueSize1),
+    OptionWord::Count(CountOption::QueueSize2),
 ];
 
-const PRINT_ITEMS: [PrintItem; 6] = [
+const PRINT_ITEMS: [PrintItem; 8] = [
     PrintItem::Problem,
     PrintItem::Solution,
     PrintItem::Arcs,
     PrintItem::Nonarcs,
     PrintItem::Nodes,
     PrintItem::Constraints,
+    PrintItem::Costranges,
+    PrintItem::Rhsranges,
 ];
 
 const SHOW_ITEMS: [ShowItem; 3] = [ShowItem::Status, ShowItem::Problem, ShowItem::Options];
 
 const CON_TYPES: [ConType; 3] = [ConType::Le, ConType::Ge, ConType::Eq];
 
-const PRICE_TYPES: [PriceType; 3] = [PriceType::First, PriceType::Best, PriceType::Bland];
+const PRICE_TYPES: [PriceType; 4] = [
+    PriceType::First,
+    PriceType::Best,
+    PriceType::Bland,
+    PriceType::Queue,
+];
 
 /// What stands at the kind's place in the table.
 fn entry<T: Copy>(table: &[T], kind: u8) -> Option<T>

@@ -19,7 +19,7 @@ use Rattle.nf_reader.specs.declared.places.Turn.{Turn}
 use Rattle.nf_reader.specs.declared.places.Reader.{Reader}
 use Rattle.nf_reader.specs.Gives.{FailsBy, GivesAt, is_memory}
 use Rattle.nf_program.specs.Programs.{no_program}
-use Rattle.nf_reader.specs.Turns.{◌>>=◌, Step, Reads, here, turn_at, behind, read, start, end_at}
+use Rattle.nf_reader.specs.Turns.{◌>>=◌, Step, Reads, fault_at, here, turn_at, behind, read, start, end_at}
 use Rattle.nf_reader.specs.Texts.{fault_of, Answers, Told}
 use Rattle.nf_program.specs.Grammar.{IsProgram, HasProgram}
 use Rattle.nf_reader.specs.Beginnings.{Stands}
@@ -122,6 +122,7 @@ module _ (c : Command) (end : ℕ) where
   end_fails kind.RepeatedOption q p h = absurd h
   end_fails kind.WrongValue q p h = absurd h
   end_fails kind.MissingOption q p h = absurd h
+  end_fails kind.WrongTogether q p h = absurd h
   end_fails kind.StatementOrder q p h = absurd h
   end_fails kind.NoMemory q p h = absurd h
 
@@ -197,31 +198,32 @@ is_no_memory kind.OptionNotHere e = absurd cc
 is_no_memory kind.RepeatedOption e = absurd cc
 is_no_memory kind.WrongValue e = absurd cc
 is_no_memory kind.MissingOption e = absurd cc
+is_no_memory kind.WrongTogether e = absurd cc
 is_no_memory kind.StatementOrder e = absurd cc
 
 -- a text of tokens is answered as they are read
 pub of_tokens : (c : Command) (text : List ℕ) (ts : List Token) (r : Reads) → length text ≤ 1048576 → AreTokens text ts → GivesAt r (read c (length text) start (lexemes text ts)) → Told c text r
 of_tokens c text ts (Ok p) le a g = inr (inr (le, ts, a, sym g))
 of_tokens c text ts (Err f) le a g = by (is_memory f.kind) refl g where
-  by : (b : Bool) → is_memory f.kind ≡ b → FailsBy {Y = Program} b f (read c (length text) start (lexemes text ts)) → (f.kind ≡ kind.NoMemory) ⊎ Answers c text (bad f)
-  by true e h = inl (is_no_memory f.kind e)
+  by : (b : Bool) → is_memory f.kind ≡ b → FailsBy {Y = Program} b f (read c (length text) start (lexemes text ts)) → (f ≡ fault_at 0 kind.NoMemory) ⊎ Answers c text (bad f)
+  by true e h = inl (λ i. record { at = h i; kind = is_no_memory f.kind e i })
   by false e h = inr (inr (inr (le, ts, a, sym h)))
 
 -- a fault of the tokens is the text's
 pub of_fault : (c : Command) (text : List ℕ) (f : TextFault) → length text ≤ 1048576 → (f ≡ lexer.NoMemory) ⊎ tokens.HasFault text f → Told c text (bad (fault_of f))
-of_fault c text f le (inl e) = inl (ap (λ (g : TextFault). (fault_of g).kind) e)
+of_fault c text f le (inl e) = inl (ap fault_of e)
 of_fault c text f le (inr h) = inr (inr (inl (le, f, h, refl)))
 
 pub told_program : (c : Command) (text : List ℕ) (r : Reads) → Told c text r → IfOk r (λ p. HasProgram c text p)
 told_program c text (Ok p) h = answer_says c text (good p) h
 told_program c text (Err f) h = tt
 
-pub told_fault : (c : Command) (text : List ℕ) (r : Reads) → Told c text r → IfErr r (λ f. (f.kind ≡ kind.NoMemory) ⊎ HasFault c text f)
+pub told_fault : (c : Command) (text : List ℕ) (r : Reads) → Told c text r → IfErr r (λ f. (f ≡ fault_at 0 kind.NoMemory) ⊎ HasFault c text f)
 told_fault c text (Ok p) h = tt
 told_fault c text (Err f) (inl h) = inl h
 told_fault c text (Err f) (inr h) = inr (answer_says c text (bad f) h)
 
-pub told_only : (c : Command) (text : List ℕ) (r : Reads) → Told c text r → (p : Program) → HasProgram c text p → MatchResult r (λ q. q ≡ p) (λ f. f.kind ≡ kind.NoMemory)
+pub told_only : (c : Command) (text : List ℕ) (r : Reads) → Told c text r → (p : Program) → HasProgram c text p → MatchResult r (λ q. q ≡ p) (λ f. f ≡ fault_at 0 kind.NoMemory)
 told_only c text (Ok q) h p has = one_program c text q p (answer_says c text (good q) h) has
 told_only c text (Err f) (inl h) p has = h
 told_only c text (Err f) (inr h) p has = absurd (never_both c text p f has (answer_says c text (bad f) h))

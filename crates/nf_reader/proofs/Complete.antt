@@ -6,7 +6,7 @@ use Rattle.nf_text.specs.declared.token.TokenKind.{TokenKind}
 use Rattle.nf_text.specs.declared.token.TokenKind.TheVariants.{Word, Number, Quoted, Equals, Semicolon}
 use Rattle.nf_text.specs.Tokens.{Lexeme}
 use Rattle.nf_program.specs.declared.program.Command.{Command}
-use Rattle.nf_program.specs.declared.program.Command.TheVariants.{Run, Check}
+use Rattle.nf_program.specs.declared.program.Command.TheVariants.{Run, Check, Again, Export}
 use Rattle.nf_program.specs.declared.program.ProcOptions.{ProcOptions}
 use Rattle.nf_program.specs.declared.program.Program.{Program}
 use Rattle.nf_program.specs.declared.program.Role.{Role}
@@ -30,7 +30,7 @@ use Rattle.nf_reader.specs.declared.places.Turn.TheVariants as turn
 use Rattle.nf_reader.specs.declared.places.Reader.{Reader}
 use Rattle.nf_program.specs.ReadValues.{column_of}
 use Rattle.nf_program.specs.Values.{IsColumn}
-use Rattle.nf_program.specs.Settings.{word_of, flag_of, options_of, lacks, reset_setting, saves_of, save_setting}
+use Rattle.nf_program.specs.Settings.{word_of, flag_of, options_of, lacks, are_wrong_together, reset_setting, saves_of, save_setting}
 use Rattle.nf_program.specs.Programs.{is_empty, no_program, is_given, has_role, print_number, has_print, show_number, has_show, is_quit}
 use Rattle.nf_reader.specs.Opened.{belongs, plain_act}
 use Rattle.nf_reader.specs.Turns.{Step, unless, found_or, first_word, at_start, at_netflow, next_place, new_option, option_word, end_options, at_options, at_equals, at_value, act_place, is_late, opens, at_statement, is_full, add_column, at_columns, print_word, at_print, show_word, at_show, at_alone, turn_at, behind}
@@ -222,6 +222,8 @@ module _ (c : Command) where
   in_time : (c : Command) (over : Bool) → over ≡ false → serves c false ≡ true → is_late c over ≡ false
   in_time Run over e s = e
   in_time Check over e s = absurd cc
+  in_time Again over e s = absurd cc
+  in_time Export over e s = absurd cc
 
   act_turn : (over : Bool) (r : Place) (late : Bool) → late ≡ false → act_place late r ≡ Ok (turn.Goes r)
   act_turn over r late e = ap (λ (b : Bool). unless b kind.StatementOrder (Ok (turn.Goes r))) e
@@ -328,7 +330,8 @@ module _ (c : Command) where
       let q = place.Options head.Proc ss in
       let made : turn_at c q no_program t.kind t.bytes ≡ Ok (turn.Proc o) =
       ap (λ (k : TokenKind). at_options c head.Proc ss k t.bytes) h.5
-      ∙ ap (λ (x : Bool). unless x kind.MissingOption (Ok (turn.Proc (options_of ss)))) (ap (lacks c) (sym b.8) ∙ b.9)
+      ∙ ap (λ (x : Bool). unless x kind.MissingOption (unless (are_wrong_together (options_of ss)) kind.WrongTogether (Ok (turn.Proc (options_of ss))))) (ap (lacks c) (sym b.8) ∙ b.9.0)
+      ∙ ap (λ (x : Bool). unless x kind.WrongTogether (Ok (turn.Proc (options_of ss)))) (ap are_wrong_together (sym b.8) ∙ b.9.1)
       ∙ ap (λ (x : ProcOptions). done (turn.Proc x)) (sym b.8) in
       ends q no_program (w ∷ h.1) t ts (turn.Proc o) (w ∷ b.0 ∷ [], b.1, ap (λ (x : List Lexeme). w ∷ x) b.3, (w, b.0, refl, h.4, b.4, b.5), b.6, b.7) refl h.3 made
 
@@ -414,6 +417,8 @@ module _ (c : Command) where
   serves_one : (c : Command) (a : Statement) (acts : List Statement) → Serves c (a ∷ acts) → (serves c (is_quit a) ≡ true) × Serves c acts
   serves_one Run a acts h = (refl, tt)
   serves_one Check a acts h = (h.0, h.1)
+  serves_one Again a acts h = (h.0, h.1)
+  serves_one Export a acts h = (h.0, h.1)
 
   abbrev with_acts : ProcOptions → List RoleColumns → List Statement → Reader
   with_acts o roles acts = between (record { proc = o; roles = roles; acts = acts })

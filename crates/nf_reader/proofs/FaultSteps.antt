@@ -4,7 +4,7 @@ use Rattle.nf_text.specs.declared.token.TokenKind.{TokenKind}
 use Rattle.nf_text.specs.declared.token.TokenKind.TheVariants.{Word, Number, Quoted, Equals, Semicolon}
 use Rattle.nf_text.specs.Tokens.{Lexeme}
 use Rattle.nf_program.specs.declared.program.Command.{Command}
-use Rattle.nf_program.specs.declared.program.Command.TheVariants.{Run, Check}
+use Rattle.nf_program.specs.declared.program.Command.TheVariants.{Run, Check, Again, Export}
 use Rattle.nf_program.specs.declared.program.Program.{Program}
 use Rattle.nf_program.specs.declared.program.Role.{Role}
 use Rattle.nf_program.specs.declared.program.Statement.TheVariants as act
@@ -26,13 +26,13 @@ use Rattle.nf_reader.specs.declared.places.Turn.TheVariants as turn
 use Rattle.nf_program.specs.Words.{statement_of}
 use Rattle.nf_program.specs.ReadValues.{column_of}
 use Rattle.nf_program.specs.Values.{IsColumn}
-use Rattle.nf_program.specs.Settings.{flag_of, options_of}
+use Rattle.nf_program.specs.Settings.{flag_of, options_of, are_wrong_together}
 use Rattle.nf_program.specs.Programs.{is_empty, takes_list}
 use Rattle.nf_reader.specs.Opened.{belongs}
 use Rattle.nf_reader.specs.Turns.{unless, found_or, first_word, at_start, at_netflow, next_place, new_option, option_word, end_options, at_options, at_equals, value_of, at_value, act_place, is_late, opens, at_statement, is_full, add_column, at_columns, print_word, at_print, show_word, at_show, at_alone, turn_at}
 use Rattle.nf_program.specs.Grammar.{NamesStatement, NamesOption}
 use Rattle.nf_reader.specs.Beginnings.{serves}
-use Rattle.nf_reader.specs.Faults.{IsUnknown, IsNotHere, IsRepeated, IsNoWord, IsWrong, IsMissing, IsTooLate, IsMisplaced, IsFault}
+use Rattle.nf_reader.specs.Faults.{IsUnknown, IsNotHere, IsRepeated, IsNoWord, IsWrong, IsMissing, IsTogether, IsTooLate, IsMisplaced, IsFault}
 use Rattle.nf_program.proofs.ValueFacts.{column_sound}
 use Rattle.nf_reader.proofs.SettingFacts.{value_sound}
 use Rattle.nf_reader.proofs.Sound.{failed}
@@ -222,7 +222,7 @@ module _ (c : Command) (p : Program) (t : Lexeme) where
   missing : (q : Place) → IsMissing c q t → Fails q kind.MissingOption
   unfolding Fails turn_at at_options end_options
   missing (place.Options head.Proc ss) h =
-      ap (λ (x : TokenKind). at_options c head.Proc ss x t.bytes) h.0 ∙ ap (λ (b : Bool). unless b kind.MissingOption (Ok (turn.Proc (options_of ss)))) h.1
+      ap (λ (x : TokenKind). at_options c head.Proc ss x t.bytes) h.0 ∙ ap (λ (b : Bool). unless b kind.MissingOption (unless (are_wrong_together (options_of ss)) kind.WrongTogether (Ok (turn.Proc (options_of ss))))) h.1
   missing (place.Options head.Reset ss) h = absurd h
   missing (place.Options head.Save ss) h = absurd h
   missing place.Start h = absurd h
@@ -235,10 +235,30 @@ module _ (c : Command) (p : Program) (t : Lexeme) where
   missing (place.Show is) h = absurd h
   missing (place.Alone s) h = absurd h
 
+  together : (q : Place) → IsTogether c q t → Fails q kind.WrongTogether
+  unfolding Fails turn_at at_options end_options
+  together (place.Options head.Proc ss) h =
+      ap (λ (x : TokenKind). at_options c head.Proc ss x t.bytes) h.0
+      ∙ ap (λ (b : Bool). unless b kind.MissingOption (unless (are_wrong_together (options_of ss)) kind.WrongTogether (Ok (turn.Proc (options_of ss))))) h.1
+      ∙ ap (λ (b : Bool). unless b kind.WrongTogether (Ok (turn.Proc (options_of ss)))) h.2
+  together (place.Options head.Reset ss) h = absurd h
+  together (place.Options head.Save ss) h = absurd h
+  together place.Start h = absurd h
+  together place.Netflow h = absurd h
+  together (place.Equals o ss w) h = absurd h
+  together (place.Value o ss w) h = absurd h
+  together (place.Statement over) h = absurd h
+  together (place.Columns r ns) h = absurd h
+  together (place.Print is) h = absurd h
+  together (place.Show is) h = absurd h
+  together (place.Alone s) h = absurd h
+
   late_by : (c : Command) (over : Bool) → (over ≡ true) ⊎ (serves c false ≡ false) → is_late c over ≡ true
   late_by Run over (inl e) = e
   late_by Run over (inr e) = absurd cc
   late_by Check over h = refl
+  late_by Again over h = refl
+  late_by Export over h = refl
 
   late_act : (over : Bool) (r : Place) → (over ≡ true) ⊎ (serves c false ≡ false) → act_place (is_late c over) r ≡ failed kind.StatementOrder
   late_act over r h = ap (λ (b : Bool). unless b kind.StatementOrder (Ok (turn.Goes r))) (late_by c over h)
@@ -283,6 +303,7 @@ module _ (c : Command) (p : Program) (t : Lexeme) where
   fault_fails kind.RepeatedOption q h = repeated q h
   fault_fails kind.WrongValue q h = wrong_fails q h
   fault_fails kind.MissingOption q h = missing q h
+  fault_fails kind.WrongTogether q h = together q h
   fault_fails kind.StatementOrder q h = misplaced q h
   fault_fails kind.BadByte q h = absurd h
   fault_fails kind.OpenComment q h = absurd h

@@ -19,7 +19,7 @@ use Rattle.nf_program.specs.declared.settings.Setting.{Setting}
 use Rattle.nf_program.specs.declared.settings.Setting.TheVariants as setting
 use Rattle.nf_reader.specs.declared.places.Head.{Head}
 use Rattle.nf_reader.specs.declared.places.Head.TheVariants as head
-use Rattle.nf_program.specs.ReadValues.{set_name_of, node_of, amount_of, bound_of, count_of, type_of, rule_of}
+use Rattle.nf_program.specs.ReadValues.{set_name_of, node_of, amount_of, bound_of, count_for, type_of, rule_of}
 use Rattle.nf_program.specs.Settings.{word_of, flag_of, key_of, is_session, is_output, is_warm, is_session_setting, is_warm_setting, is_apart, resets_in, resets_of, reset_setting, saves_of, save_setting}
 use Rattle.nf_program.specs.Programs.{is_given}
 use Rattle.nf_reader.specs.Opened.{belongs}
@@ -27,7 +27,7 @@ use Rattle.nf_reader.specs.Turns.{value_of}
 use Rattle.nf_program.specs.Grammar.{NamesOption, IsValue, IsSettingBy, IsSetting, AreSettings}
 use Rattle.nf_reader.specs.Beginnings.{Suits}
 use Rattle.nf_program.proofs.Things.{each_more, distinct_more, any_more}
-use Rattle.nf_program.proofs.ValueFacts.{mapped, set_name_sound, set_name_complete, node_sound, node_complete, amount_sound, amount_complete, bound_sound, bound_complete, count_sound, count_complete, type_sound, type_complete, rule_sound, rule_complete}
+use Rattle.nf_program.proofs.ValueFacts.{mapped, set_name_sound, set_name_complete, node_sound, node_complete, amount_sound, amount_complete, bound_sound, bound_complete, count_for_sound, count_for_complete, type_sound, type_complete, rule_sound, rule_complete}
 
 -- ---- one option
 
@@ -40,7 +40,7 @@ value_sound option.DefCapacity s t e = let m = mapped setting.DefCapacity (bound
 value_sound option.DefConType s t e = let m = mapped setting.DefConType (type_of t.kind t.bytes) s e in (ap word_of (sym m.2), subst (λ (x : Setting). IsValue x t) m.2 (type_sound m.0 t m.1))
 value_sound (option.Node o) s t e = let m = mapped (setting.Node o) (node_of t.kind t.bytes) s e in (ap word_of (sym m.2), subst (λ (x : Setting). IsValue x t) m.2 (node_sound m.0 t m.1))
 value_sound (option.Output o) s t e = let m = mapped (setting.Output o) (set_name_of t.kind t.bytes) s e in (ap word_of (sym m.2), subst (λ (x : Setting). IsValue x t) m.2 (set_name_sound m.0 t m.1))
-value_sound (option.Count o) s t e = let m = mapped (setting.Count o) (count_of t.kind t.bytes) s e in (ap word_of (sym m.2), subst (λ (x : Setting). IsValue x t) m.2 (count_sound m.0 t m.1))
+value_sound (option.Count o) s t e = let m = mapped (setting.Count o) (count_for o t.kind t.bytes) s e in (ap word_of (sym m.2), subst (λ (x : Setting). IsValue x t) m.2 (count_for_sound o m.0 t m.1))
 value_sound (option.Rule o) s t e = let m = mapped (setting.Rule o) (rule_of t.kind t.bytes) s e in (ap word_of (sym m.2), subst (λ (x : Setting). IsValue x t) m.2 (rule_sound m.0 t m.1))
 value_sound (option.Flag o) s t e = absurd cc
 value_sound (option.Switch o b) s t e = absurd cc
@@ -53,7 +53,7 @@ value_complete (setting.DefCapacity b) t h = ap (option_map setting.DefCapacity)
 value_complete (setting.DefConType c) t h = ap (option_map setting.DefConType) (type_complete c t h)
 value_complete (setting.Node o n) t h = ap (option_map (setting.Node o)) (node_complete n t h)
 value_complete (setting.Output o n) t h = ap (option_map (setting.Output o)) (set_name_complete n t h)
-value_complete (setting.Count o n) t h = ap (option_map (setting.Count o)) (count_complete n t h)
+value_complete (setting.Count o n) t h = ap (option_map (setting.Count o)) (count_for_complete o n t h)
 value_complete (setting.Rule o r) t h = ap (option_map (setting.Rule o)) (rule_complete r t h)
 value_complete (setting.Flag o) t h = absurd h
 value_complete (setting.Switch o b) t h = absurd h
@@ -102,6 +102,8 @@ apart_word (option.Flag flag.SparseConData) = refl
 apart_word (option.Flag flag.Thrunet) = refl
 apart_word (option.Flag flag.Maximize) = refl
 apart_word (option.Flag flag.Warm) = refl
+apart_word (option.Flag flag.MaxFlow) = refl
+apart_word (option.Flag flag.ShortPath) = refl
 apart_word (option.Switch o b) = refl
 apart_word (option.Input o) = refl
 apart_word (option.Amount o) = refl
@@ -165,6 +167,8 @@ reset_is (setting.Count count.Maxit1 n) e = (reset.Maxit1 n, refl)
 reset_is (setting.Count count.Maxit2 n) e = (reset.Maxit2 n, refl)
 reset_is (setting.Count count.Pause1 n) e = (reset.Pause1 n, refl)
 reset_is (setting.Count count.Pause2 n) e = (reset.Pause2 n, refl)
+reset_is (setting.Count count.QueueSize1 n) e = (reset.QueueSize1 n, refl)
+reset_is (setting.Count count.QueueSize2 n) e = (reset.QueueSize2 n, refl)
 reset_is (setting.Switch switch.FeasiblePause1 b) e = (reset.FeasiblePause1 b, refl)
 reset_is (setting.Switch switch.FeasiblePause2 b) e = (reset.FeasiblePause2 b, refl)
 reset_is (setting.Switch switch.EndPause1 b) e = (reset.EndPause1 b, refl)
@@ -192,6 +196,8 @@ reset_session (reset.Future1 b) = refl
 reset_session (reset.Future2 b) = refl
 reset_session (reset.PriceType1 r) = refl
 reset_session (reset.PriceType2 r) = refl
+reset_session (reset.QueueSize1 n) = refl
+reset_session (reset.QueueSize2 n) = refl
 
 resets_back : (r : ResetOption) → resets_in (reset_setting r) ≡ r ∷ []
 resets_back (reset.Maxit1 n) = refl
@@ -205,6 +211,8 @@ resets_back (reset.Future1 b) = refl
 resets_back (reset.Future2 b) = refl
 resets_back (reset.PriceType1 r) = refl
 resets_back (reset.PriceType2 r) = refl
+resets_back (reset.QueueSize1 n) = refl
+resets_back (reset.QueueSize2 n) = refl
 
 -- the options of RESET that these settings are
 pub resets_are : (os : List ResetOption) → resets_of (map reset_setting os) ≡ os

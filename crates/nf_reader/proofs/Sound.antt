@@ -6,7 +6,7 @@ use Rattle.nf_text.specs.declared.token.TokenKind.{TokenKind}
 use Rattle.nf_text.specs.declared.token.TokenKind.TheVariants.{Word, Number, Quoted, Equals, Semicolon}
 use Rattle.nf_text.specs.Tokens.{Lexeme}
 use Rattle.nf_program.specs.declared.program.Command.{Command}
-use Rattle.nf_program.specs.declared.program.Command.TheVariants.{Run, Check}
+use Rattle.nf_program.specs.declared.program.Command.TheVariants.{Run, Check, Again, Export}
 use Rattle.nf_program.specs.declared.program.Program.{Program}
 use Rattle.nf_program.specs.declared.program.Role.{Role}
 use Rattle.nf_program.specs.declared.program.Statement.{Statement}
@@ -30,7 +30,7 @@ use Rattle.nf_reader.specs.declared.places.Turn.TheVariants as turn
 use Rattle.nf_program.specs.Words.{statement_of, option_of, print_of, show_of}
 use Rattle.nf_program.specs.ReadValues.{column_of}
 use Rattle.nf_program.specs.Values.{IsColumn}
-use Rattle.nf_program.specs.Settings.{word_of, flag_of, options_of, lacks, resets_of, reset_setting, saves_of, save_setting}
+use Rattle.nf_program.specs.Settings.{word_of, flag_of, options_of, lacks, are_wrong_together, resets_of, reset_setting, saves_of, save_setting}
 use Rattle.nf_program.specs.Programs.{is_empty, no_program, is_netflow, is_given, has_role, takes_list, print_number, has_print, show_number, has_show, is_quit}
 use Rattle.nf_reader.specs.Opened.{belongs, plain_act}
 use Rattle.nf_reader.specs.Turns.{Step, unless, found_or, first_word, at_start, at_netflow, next_place, new_option, option_word, end_options, at_options, at_equals, value_of, at_value, act_place, is_late, opens, at_statement, is_full, add_column, at_columns, print_word, at_print, show_word, at_show, at_alone, turn_at, behind}
@@ -150,11 +150,15 @@ serves_more : (c : Command) (acts : List Statement) (a : Statement) → Serves c
 serves_more Run acts a h e = tt
 serves_more Check [] a h e = (e, tt)
 serves_more Check (b ∷ acts) a h e = (h.0, serves_more Check acts a h.1 e)
+serves_more Again [] a h e = (e, tt)
+serves_more Again (b ∷ acts) a h e = (h.0, serves_more Again acts a h.1 e)
+serves_more Export [] a h e = (e, tt)
+serves_more Export (b ∷ acts) a h e = (h.0, serves_more Export acts a h.1 e)
 
 nothing_open : (c : Command) (over : Bool) (p : Program) (ts : List Lexeme) → IsProgram c p ts → over ≡ list_any is_quit p.acts → Stands c (place.Statement over) p ts
 nothing_open c over p ts h e = (ts, [], sym (append-nil ts), h, e, refl)
 
-proc_ends : (c : Command) (ss : List Setting) (ts : List Lexeme) (t : Lexeme) → BeginsOptions head.Proc ss ts → IsSemicolon t → lacks c (options_of ss) ≡ false → IsProgram c (record no_program { proc = options_of ss }) (ts ++ t ∷ [])
+proc_ends : (c : Command) (ss : List Setting) (ts : List Lexeme) (t : Lexeme) → BeginsOptions head.Proc ss ts → IsSemicolon t → (lacks c (options_of ss) ≡ false) × (are_wrong_together (options_of ss) ≡ false) → IsProgram c (record no_program { proc = options_of ss }) (ts ++ t ∷ [])
 proc_ends c ss ts t b semi whole =
     let w = b.3.0 in
     let n = b.3.1 in
@@ -173,6 +177,8 @@ proc_ends c ss ts t b semi whole =
       none_serves : (c : Command) → Serves c []
       none_serves Run = tt
       none_serves Check = tt
+      none_serves Again = tt
+      none_serves Export = tt
 
 role_ends : (c : Command) (p : Program) (before ts : List Lexeme) (r : Role) (ns : List (List ℕ)) → IsProgram c p before → has_role r p.roles ≡ false → p.acts ≡ [] → IsRole (r, ns) ts
     → IsProgram c (record p { roles = p.roles ++ (r, ns) ∷ [] }) (before ++ ts)
@@ -266,12 +272,13 @@ module _ (c : Command) (p : Program) (ts : List Lexeme) (t : Lexeme) where
   options_end : (h : Head) (ss : List Setting) → IsSemicolon t → Stands c (place.Options h ss) p ts → Says c (place.Options h ss) p ts t (end_options c h ss)
   unfolding end_options
   options_end head.Proc ss semi h =
-      says_unless c p ts t (place.Options head.Proc ss) (lacks c (options_of ss)) kind.MissingOption (Ok (turn.Proc (options_of ss))) (λ e. (semi, e))
+      says_unless c p ts t (place.Options head.Proc ss) (lacks c (options_of ss)) kind.MissingOption (unless (are_wrong_together (options_of ss)) kind.WrongTogether (Ok (turn.Proc (options_of ss)))) (λ e. (semi, e))
+      (λ none. says_unless c p ts t (place.Options head.Proc ss) (are_wrong_together (options_of ss)) kind.WrongTogether (Ok (turn.Proc (options_of ss))) (λ e. (semi, none, e))
       (λ e.
       let all : ts ≡ h.1 = h.2 ∙ ap (λ (x : List Lexeme). x ++ h.1) h.3 in
-      let made : IsProgram c (record no_program { proc = options_of ss }) (ts ++ t ∷ []) = subst (λ (x : List Lexeme). IsProgram c (record no_program { proc = options_of ss }) (x ++ t ∷ [])) (sym all) (proc_ends c ss h.1 t h.5 semi e) in
+      let made : IsProgram c (record no_program { proc = options_of ss }) (ts ++ t ∷ []) = subst (λ (x : List Lexeme). IsProgram c (record no_program { proc = options_of ss }) (x ++ t ∷ [])) (sym all) (proc_ends c ss h.1 t h.5 semi (none, e)) in
       subst (λ (x : Program). Stands c (place.Statement false) (record x { proc = options_of ss }) (ts ++ t ∷ [])) (sym h.4)
-      (nothing_open c false (record no_program { proc = options_of ss }) (ts ++ t ∷ []) made refl))
+      (nothing_open c false (record no_program { proc = options_of ss }) (ts ++ t ∷ []) made refl)))
   options_end head.Reset ss semi h =
       act_done (place.Options head.Reset ss) (act.Reset (resets_of ss)) h refl (λ m. m)
       (λ opened b.
@@ -323,10 +330,14 @@ module _ (c : Command) (p : Program) (ts : List Lexeme) (t : Lexeme) where
   late_is : (c : Command) (over : Bool) → is_late c over ≡ true → (over ≡ true) ⊎ (serves c false ≡ false)
   late_is Run over e = inl e
   late_is Check over e = inr refl
+  late_is Again over e = inr refl
+  late_is Export over e = inr refl
 
   may_act : (c : Command) (over : Bool) → over ≡ list_any is_quit p.acts → is_late c over ≡ false → MayAct c false p
   may_act Run over same e = (sym same ∙ e, refl)
   may_act Check over same e = absurd cc
+  may_act Again over same e = absurd cc
+  may_act Export over same e = absurd cc
 
   act_says : (over : Bool) (s : StatementWord) (r : Place) (late : Bool) → NamesStatement s t → Stands c (place.Statement over) p ts → in_proc r ≡ false → (late ≡ true → IsTooLate c over p s) → (late ≡ false → MayStand c r p) → Begins r (t ∷ [])
       → Says c (place.Statement over) p ts t (act_place late r)
@@ -336,6 +347,8 @@ module _ (c : Command) (p : Program) (ts : List Lexeme) (t : Lexeme) where
   quit_serves : (c : Command) → serves c true ≡ true
   quit_serves Run = refl
   quit_serves Check = refl
+  quit_serves Again = refl
+  quit_serves Export = refl
 
   run_serves : (c : Command) → MayAct c false p → MayAct c false p
   run_serves c m = m

@@ -4,7 +4,7 @@ use Rattle.std.specs.List.{list_any}
 use Rattle.nf_text.specs.declared.token.TokenKind.TheVariants.{Word, Equals}
 use Rattle.nf_text.specs.Tokens.{Lexeme}
 use Rattle.nf_program.specs.declared.program.Command.{Command}
-use Rattle.nf_program.specs.declared.program.Command.TheVariants.{Run, Check}
+use Rattle.nf_program.specs.declared.program.Command.TheVariants.{Run, Check, Again, Export}
 use Rattle.nf_program.specs.declared.program.Program.{Program}
 use Rattle.nf_program.specs.declared.program.Role.{Role}
 use Rattle.nf_program.specs.declared.program.ResetOption.{ResetOption}
@@ -41,7 +41,7 @@ Suits head.Save ss = (is : List SaveItem) × (ss ≡ map save_setting is)
 abbrev pub BeginsOptions : Head → List Setting → List Lexeme → Type 0
 BeginsOptions h ss ts = (front : List Lexeme) × (back : List Lexeme) × (ts ≡ front ++ back) × IsHead h front × AreSettings ss back × Suits h ss
 
--- An option with a value may come behind these.
+-- An option with a value may come after these.
 abbrev pub MayCome : Head → List Setting → OptionWord → Type 0
 MayCome h ss o = (belongs h ss o ≡ true) × (is_given o ss ≡ false) × (flag_of o ≡ None)
 
@@ -73,22 +73,24 @@ Begins (place.Print is) ts = BeginsWith word.Print (ArePrints is) ts
 Begins (place.Show is) ts = BeginsWith word.Show (AreShows is) ts
 Begins (place.Alone s) ts = One NamesStatement (plain_word s) ts
 
--- an act may come: none behind QUIT, and for `check` none but QUIT
+-- an act may come: none after QUIT, and for each command but `run` none but QUIT
 abbrev pub serves : Command → Bool → Bool
 serves Run quit = true
 serves Check quit = quit
+serves Again quit = quit
+serves Export quit = quit
 
--- An act may come behind the statements of this program.
+-- An act may come after the statements of this program.
 abbrev pub MayAct : Command → Bool → Program → Type 0
 MayAct c quit p = (list_any is_quit p.acts ≡ false) × (serves c quit ≡ true)
 
--- A statement of options may come behind the statements of this program.
+-- A statement of options may come after the statements of this program.
 abbrev pub MayHead : Command → Head → Program → Type 0
 MayHead c head.Proc p = p ≡ no_program
 MayHead c head.Reset p = MayAct c false p
 MayHead c head.Save p = MayAct c false p
 
--- The open statement may stand behind the statements of this program.
+-- The open statement may stand after the statements of this program.
 abbrev pub MayStand : Command → Place → Program → Type 0
 MayStand c place.Start p = p ≡ no_program
 MayStand c place.Netflow p = p ≡ no_program

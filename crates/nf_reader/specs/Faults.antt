@@ -23,7 +23,7 @@ use Rattle.nf_reader.specs.declared.places.Place.{Place}
 use Rattle.nf_reader.specs.declared.places.Place.TheVariants as place
 use Rattle.nf_program.specs.Words.{statement_of, option_of, print_of, show_of}
 use Rattle.nf_program.specs.Values.{IsColumn}
-use Rattle.nf_program.specs.Settings.{word_of, options_of, lacks}
+use Rattle.nf_program.specs.Settings.{word_of, options_of, lacks, are_wrong_together}
 use Rattle.nf_program.specs.Programs.{is_netflow, is_given, has_role, takes_list, has_print, has_show}
 use Rattle.nf_reader.specs.Opened.{belongs}
 use Rattle.nf_program.specs.Grammar.{NamesStatement, NamesOption, NamesPrint, NamesShow, IsSemicolon, IsValue}
@@ -41,7 +41,7 @@ IsUnknown (place.Show is) w = show_of w ≡ None
 IsUnknown (place.Alone s) w = Unit {0}
 IsUnknown _ w = ⊥
 
--- OptionNotHere: an option that the statement does not take behind these.
+-- OptionNotHere: an option that the statement does not take after these.
 abbrev pub IsNotHere : Place → Lexeme → Type 0
 IsNotHere (place.Options h ss) t = (o : OptionWord) × NamesOption o t × (belongs h ss o ≡ false)
 IsNotHere _ t = ⊥
@@ -73,13 +73,18 @@ IsWrong (place.Print is) t = IsNoWord t ⊎ ((is ≡ []) × IsSemicolon t)
 IsWrong (place.Show is) t = IsNoWord t ⊎ ((is ≡ []) × IsSemicolon t)
 IsWrong (place.Alone s) t = IsNoWord t
 
--- MissingOption: PROC's semicolon where an option lacks.
+-- MissingOption: PROC's semicolon if an option is missing.
 abbrev pub IsMissing : Command → Place → Lexeme → Type 0
 IsMissing c (place.Options head.Proc ss) t = IsSemicolon t × (lacks c (options_of ss) ≡ true)
 IsMissing c _ t = ⊥
 
--- A statement that may not stand here: PROC; a role behind an act; an act behind QUIT, and for `check` an act other
--- than QUIT.
+-- WrongTogether: PROC's semicolon if nothing is missing, and options stand together that may not.
+abbrev pub IsTogether : Command → Place → Lexeme → Type 0
+IsTogether c (place.Options head.Proc ss) t = IsSemicolon t × (lacks c (options_of ss) ≡ false) × (are_wrong_together (options_of ss) ≡ true)
+IsTogether c _ t = ⊥
+
+-- A statement that may not stand here: PROC; a role after an act; an act after QUIT, and for each command but `run` an
+-- act other than QUIT.
 abbrev pub IsTooLate : Command → Bool → Program → StatementWord → Type 0
 IsTooLate c over p word.Proc = Unit {0}
 IsTooLate c over p (word.Role r) = (has_role r p.roles ≡ false) × (p.acts ≢ [])
@@ -99,6 +104,7 @@ IsFault c kind.OptionNotHere q p t = IsNotHere q t
 IsFault c kind.RepeatedOption q p t = IsRepeated q p t
 IsFault c kind.WrongValue q p t = IsWrong q t
 IsFault c kind.MissingOption q p t = IsMissing c q t
+IsFault c kind.WrongTogether q p t = IsTogether c q t
 IsFault c kind.StatementOrder q p t = IsMisplaced c q p t
 IsFault c _ q p t = ⊥
 
@@ -111,7 +117,7 @@ IsEndFault kind.MissingSemicolon (place.Statement over) = ⊥
 IsEndFault kind.MissingSemicolon _ = Unit {0}
 IsEndFault _ q = ⊥
 
--- The first fault of the tokens, at a token behind a beginning of a program or at the end.
+-- The first fault of the tokens, at a token after a beginning of a program or at the end.
 abbrev pub FaultOf : Command → List Lexeme → ℕ → StmtFault → Type 0
 FaultOf c ts end f =
     ((front : List Lexeme) × (t : Lexeme) × (back : List Lexeme) × (k : StmtKind) × (q : Place) × (p : Program)

@@ -14,17 +14,17 @@ abbrev pub Gives : {X : Type 0} → Result X StmtKind → Result X StmtKind → 
 Gives (Ok x) read = read ≡ Ok x
 Gives (Err e) read = Fails e read
 
--- The kind tells that memory ran out.
+-- The kind says that memory ran out.
 abbrev pub is_memory : StmtKind → Bool
 is_memory NoMemory = true
 is_memory _ = false
 
--- the same, with the place of the fault
+-- the same, with the place of the fault, which is 0 if memory ran out
 abbrev pub FailsBy : {Y : Type 0} → Bool → StmtFault → Result Y StmtFault → Type 0
-FailsBy true f read = Unit {0}
+FailsBy true f read = f.at ≡ 0
 FailsBy false f read = read ≡ Err f
 
--- The same for reading that tells places.
+-- The same for reading that gives places.
 abbrev pub GivesAt : {X : Type 0} → Result X StmtFault → Result X StmtFault → Type 0
 GivesAt (Ok x) read = read ≡ Ok x
 GivesAt (Err f) read = FailsBy (is_memory f.kind) f read

@@ -12,7 +12,7 @@ use Rattle.nf_reader.specs.declared.places.Plain.{Plain}
 use Rattle.nf_reader.specs.declared.places.Plain.TheVariants as plain
 use Rattle.nf_program.specs.Settings.{is_session, is_output, is_warm, is_session_setting, is_warm_setting}
 
--- The option may stand in the statement behind these: RESET takes session options, SAVE output options, and PROC all
+-- The option may stand in the statement after these: RESET takes session options, SAVE output options, and PROC all
 -- but WARM beside session options.
 abbrev pub belongs : Head → List Setting → OptionWord → Bool
 belongs head.Proc given o = not (is_warm o && list_any is_session_setting given) && not (is_session o && list_any is_warm_setting given)

@@ -1,4 +1,4 @@
--- What reading a whole text answers, by the reader's own steps.
+-- What reading a whole text gives, by the reader's own steps.
 use Rattle.std.specs.Prelude.{◌≡◌, ℕ, ◌<◌, ◌≤◌, ◌⊎◌, List, length, Result, Ok, Err}
 use Rattle.nf_text.specs.declared.token.Token.{Token}
 use Rattle.nf_text.specs.declared.token.TextFault.{TextFault}
@@ -17,14 +17,14 @@ fault_of (fault.OpenComment n) = fault_at n OpenComment
 fault_of (fault.OpenQuote n) = fault_at n OpenQuote
 fault_of fault.NoMemory = fault_at 0 NoMemory
 
--- What reading a text answers: its program, or its first fault.
+-- What reading a text gives: its program, or its first fault.
 abbrev pub Answers : Command → List ℕ → Result Program StmtFault → Type 0
 Answers c text r =
     ((1048576 < length text) × (r ≡ Err (fault_at 1048576 TooLong)))
     ⊎ ((length text ≤ 1048576) × (f : TextFault) × HasFault text f × (r ≡ Err (fault_of f)))
     ⊎ ((length text ≤ 1048576) × (ts : List Token) × AreTokens text ts × (r ≡ read c (length text) start (lexemes text ts)))
 
--- This is the answer, unless memory ran out.
+-- This is what it gives, unless memory ran out.
 abbrev pub Told : Command → List ℕ → Result Program StmtFault → Type 0
 Told c text (Ok p) = Answers c text (Ok p)
-Told c text (Err f) = (f.kind ≡ NoMemory) ⊎ Answers c text (Err f)
+Told c text (Err f) = (f ≡ fault_at 0 NoMemory) ⊎ Answers c text (Err f)

@@ -5,7 +5,7 @@ use Rattle.nf_text.specs.declared.token.TokenKind.{TokenKind}
 use Rattle.nf_text.specs.declared.token.TokenKind.TheVariants.{Word, Equals, Semicolon}
 use Rattle.nf_text.specs.Tokens.{Lexeme}
 use Rattle.nf_program.specs.declared.program.Command.{Command}
-use Rattle.nf_program.specs.declared.program.Command.TheVariants.{Run, Check}
+use Rattle.nf_program.specs.declared.program.Command.TheVariants.{Run, Check, Again, Export}
 use Rattle.nf_program.specs.declared.program.Program.{Program}
 use Rattle.nf_program.specs.declared.program.Statement.TheVariants as act
 use Rattle.nf_program.specs.declared.program.PrintItem.{PrintItem}
@@ -30,8 +30,8 @@ use Rattle.nf_reader.specs.declared.places.Turn.{Turn}
 use Rattle.nf_reader.specs.declared.places.Turn.TheVariants as turn
 use Rattle.nf_reader.specs.declared.places.Reader.{Reader}
 use Rattle.nf_program.specs.Words.{statement_of, option_of, print_of, show_of}
-use Rattle.nf_program.specs.ReadValues.{set_name_of, column_of, node_of, amount_of, bound_of, count_of, type_of, rule_of}
-use Rattle.nf_program.specs.Settings.{flag_of, options_of, lacks, resets_of, saves_of}
+use Rattle.nf_program.specs.ReadValues.{set_name_of, column_of, node_of, amount_of, bound_of, count_for, type_of, rule_of}
+use Rattle.nf_program.specs.Settings.{flag_of, options_of, lacks, are_wrong_together, resets_of, saves_of}
 use Rattle.nf_program.specs.Programs.{is_empty, has_role, takes_list, has_print, has_show, is_quit, is_netflow, no_program, is_given}
 use Rattle.nf_reader.specs.Opened.{plain_act, belongs}
 
@@ -39,11 +39,11 @@ use Rattle.nf_reader.specs.Opened.{plain_act, belongs}
 abbrev pub Step : Type 0 → Type 0
 Step A = Result A StmtKind
 
--- the fault where the test holds, else this
+-- the fault if the test holds, else this
 abbrev pub unless : {A : Type 0} → Bool → StmtKind → Step A → Step A
 unless b k x = if b then Err k else x
 
--- the fault where nothing is found, else this of what is found
+-- the fault if nothing is found, else this of what is found
 abbrev pub found_or : {A B : Type 0} → StmtKind → Option A → (A → Step B) → Step B
 found_or k None f = Err k
 found_or k (Some a) f = f a
@@ -80,9 +80,9 @@ new_option h ss o = unless (is_given o ss) kind.RepeatedOption (Ok (turn.Goes (n
 unfoldable pub option_word : Head → List Setting → Option OptionWord → Step Turn
 option_word h ss m = found_or kind.UnknownWord m (λ o. unless (not (belongs h ss o)) kind.OptionNotHere (new_option h ss o))
 
--- The semicolon behind the options.
+-- The semicolon after the options.
 unfoldable pub end_options : Command → Head → List Setting → Step Turn
-end_options c head.Proc ss = unless (lacks c (options_of ss)) kind.MissingOption (Ok (turn.Proc (options_of ss)))
+end_options c head.Proc ss = unless (lacks c (options_of ss)) kind.MissingOption (unless (are_wrong_together (options_of ss)) kind.WrongTogether (Ok (turn.Proc (options_of ss))))
 end_options c head.Reset ss = Ok (turn.Act (act.Reset (resets_of ss)))
 end_options c head.Save ss = unless (is_empty ss) kind.WrongValue (Ok (turn.Act (act.Save (saves_of ss))))
 
@@ -105,7 +105,7 @@ value_of option.DefCapacity k bytes = option_map setting.DefCapacity (bound_of k
 value_of option.DefConType k bytes = option_map setting.DefConType (type_of k bytes)
 value_of (option.Node o) k bytes = option_map (setting.Node o) (node_of k bytes)
 value_of (option.Output o) k bytes = option_map (setting.Output o) (set_name_of k bytes)
-value_of (option.Count o) k bytes = option_map (setting.Count o) (count_of k bytes)
+value_of (option.Count o) k bytes = option_map (setting.Count o) (count_for o k bytes)
 value_of (option.Rule o) k bytes = option_map (setting.Rule o) (rule_of k bytes)
 value_of (option.Flag o) k bytes = None
 value_of (option.Switch o b) k bytes = None
@@ -116,16 +116,18 @@ at_value h ss o k bytes = found_or kind.WrongValue (value_of o k bytes) (λ s. O
 
 -- ---- statements
 
--- The place behind the word of an act that may come.
+-- The place after the word of an act that may come.
 abbrev pub act_place : Bool → Place → Step Turn
 act_place late p = unless late kind.StatementOrder (Ok (turn.Goes p))
 
--- an act other than QUIT comes too late behind QUIT, and in every place for `check`
+-- an act other than QUIT comes too late after QUIT, and for each command but `run` in every place
 abbrev pub is_late : Command → Bool → Bool
 is_late Run over = over
 is_late Check over = true
+is_late Again over = true
+is_late Export over = true
 
--- The place behind a statement's word.
+-- The place after a statement's word.
 unfoldable pub opens : Command → Bool → Program → StatementWord → Step Turn
 opens c over p word.Proc = Err kind.StatementOrder
 opens c over p (word.Role r) = unless (has_role r p.roles) kind.RepeatedOption (unless (not (is_empty p.acts)) kind.StatementOrder (Ok (turn.Goes (place.Columns r []))))
@@ -147,7 +149,7 @@ at_statement c over p _ bytes = Err kind.WrongValue
 abbrev pub is_full : Role → List (List ℕ) → Bool
 is_full r ns = not (is_empty ns) && not (takes_list r)
 
--- A column name behind those read.
+-- A column name after those read.
 abbrev pub add_column : Role → List (List ℕ) → TokenKind → List ℕ → Step Turn
 add_column r ns k bytes = unless (is_full r ns) kind.WrongValue (found_or kind.WrongValue (column_of k bytes) (λ n. Ok (turn.Goes (place.Columns r (ns ++ n ∷ [])))))
 
@@ -176,7 +178,7 @@ at_show is Word bytes = show_word is (show_of bytes)
 at_show is Semicolon bytes = unless (is_empty is) kind.WrongValue (Ok (turn.Act (act.Show is)))
 at_show is _ bytes = Err kind.WrongValue
 
--- A token behind a statement that is its word alone.
+-- A token after a statement that is its word alone.
 unfoldable pub at_alone : Plain → TokenKind → Step Turn
 at_alone s Semicolon = Ok (turn.Act (plain_act s))
 at_alone s Word = Err kind.UnknownWord
@@ -197,7 +199,7 @@ turn_at c (place.Print is) p k bytes = at_print is k bytes
 turn_at c (place.Show is) p k bytes = at_show is k bytes
 turn_at c (place.Alone s) p k bytes = at_alone s k
 
--- the reader behind it
+-- the reader after it
 abbrev pub behind : Program → Turn → Reader
 behind p (turn.Goes q) = record { place = q; program = p }
 behind p (turn.Proc o) = record { place = place.Statement false; program = record p { proc = o } }
@@ -230,7 +232,7 @@ abbrev pub here : {A : Type 0} → ℕ → Step A → Result A StmtFault
 here at (Ok x) = Ok x
 here at (Err k) = Err (fault_at at k)
 
--- the reader behind the token
+-- the reader after the token
 abbrev pub step : Command → Reader → TokenKind → List ℕ → Step Reader
 step c r k bytes = turn_at c r.place r.program k bytes >>= λ u. Ok (behind r.program u)
 

@@ -26,19 +26,19 @@ pub enum Place {
     Start,
     /// The word NETFLOW.
     Netflow,
-    /// An option or the semicolon, behind these options.
+    /// An option or the semicolon, after these options.
     Options(Head, Items<Setting>),
-    /// `=` behind this option's word.
+    /// `=` after this option's word.
     Equals(Head, Items<Setting>, OptionWord),
     /// The value of this option.
     Value(Head, Items<Setting>, OptionWord),
-    /// A statement; true behind QUIT.
+    /// A statement; true after QUIT.
     Statement(bool),
-    /// A column name or the semicolon, behind these names.
+    /// A column name or the semicolon, after these names.
     Columns(Role, NameList),
-    /// An item of PRINT or the semicolon, behind these items.
+    /// An item of PRINT or the semicolon, after these items.
     Print(PrintList),
-    /// An item of SHOW or the semicolon, behind these items.
+    /// An item of SHOW or the semicolon, after these items.
     Show(ShowList),
     /// The semicolon.
     Alone(Plain),

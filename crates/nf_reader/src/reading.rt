@@ -4,7 +4,7 @@ ghost use Rattle.nf_text.specs.Tokens.{lexemes, IsWithin};
 ghost use Rattle.nf_reader.specs.Gives.{Gives, GivesAt, is_memory};
 ghost use Rattle.nf_program.specs.Settings.{no_options};
 ghost use Rattle.nf_program.specs.Programs.{is_quit};
-ghost use Rattle.nf_reader.specs.Turns.{behind, step, here, end_at, read, start};
+ghost use Rattle.nf_reader.specs.Turns.{behind, fault_at, step, here, end_at, read, start};
 ghost use Rattle.nf_program.specs.declared.program.Command.{Command};
 ghost use Rattle.nf_program.specs.declared.program.Program.{Program};
 ghost use Rattle.nf_program.specs.declared.program.StmtFault.{StmtFault};
@@ -45,7 +45,7 @@ fn is_quit(act: &Statement) -> bool
     }
 }
 
-/// The reader behind a token.
+/// The reader after a token.
 fn behind(mut program: Program, turn: Turn) -> Result<Reader, StmtKind>
     ensures { Gives result (Ok (behind program turn)) }
 {
@@ -194,13 +194,13 @@ fn answer(alloc: Global, text: &[u8], command: Command) -> Result<Program, StmtF
 }
 
 /// The program of a text under a command, or the first fault of the text and its place: exactly where the text is in no
-/// program of the grammar. The kinds of faults stand at `StmtKind`.
+/// program of the grammar. The kinds of faults stand at `StmtKind`. Out of memory, the place is 0.
 ///
 /// A text of tokens is read in one pass from left to right.
 pub fn read_program(alloc: Global, text: &[u8], command: Command) -> Result<Program, StmtFault>
     ensures found { IfOk result (λ p. HasProgram command text.now p) }
-    ensures only { (p : Program) → HasProgram command text.now p → MatchResult result (λ q. q ≡ p) (λ f. f.kind ≡ NoMemory) }
-    ensures fault { IfErr result (λ f. (f.kind ≡ NoMemory) ⊎ HasFault command text.now f) }
+    ensures only { (p : Program) → HasProgram command text.now p → MatchResult result (λ q. q ≡ p) (λ f. f ≡ fault_at 0 NoMemory) }
+    ensures fault { IfErr result (λ f. (f ≡ fault_at 0 NoMemory) ⊎ HasFault command text.now f) }
 {
     answer(alloc, text, command)
 }

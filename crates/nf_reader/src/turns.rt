@@ -10,9 +10,9 @@ ghost use Rattle.nf_reader.specs.Turns.{at_start, at_netflow, next_place, new_op
 
 use crate::given::{has_session, has_warm, is_given, is_output, is_session, is_warm};
 use crate::places::{Head, Place, Plain, Turn};
-use nf_program::settings::{Setting, lacks, options_of, resets_of, saves_of};
+use nf_program::settings::{Setting, are_wrong_together, lacks, options_of, resets_of, saves_of};
 use nf_program::values::{
-    amount_of, bound_of, column_of, count_of, node_of, rule_of, set_name_of, type_of,
+    amount_of, bound_of, column_of, count_for, node_of, rule_of, set_name_of, type_of,
 };
 use nf_program::words::{OptionWord, StatementWord, option_of, print_of, show_of, statement_of};
 use nf_program::{
@@ -121,6 +121,9 @@ fn end_options(
             if lacks(command, &options) {
                 return Err(StmtKind::MissingOption);
             }
+            if are_wrong_together(&options) {
+                return Err(StmtKind::WrongTogether);
+            }
             Ok(Turn::Proc(options))
         }
         Head::Reset => {
@@ -182,7 +185,7 @@ fn value_of(option: OptionWord, kind: TokenKind, bytes: &[u8]) -> Option<Setting
         OptionWord::DefConType => Some(Setting::DefConType(type_of(kind, bytes)?)),
         OptionWord::Node(o) => Some(Setting::Node(o, node_of(kind, bytes)?)),
         OptionWord::Output(o) => Some(Setting::Output(o, set_name_of(kind, bytes)?)),
-        OptionWord::Count(o) => Some(Setting::Count(o, count_of(kind, bytes)?)),
+        OptionWord::Count(o) => Some(Setting::Count(o, count_for(o, kind, bytes)?)),
         OptionWord::Rule(o) => Some(Setting::Rule(o, rule_of(kind, bytes)?)),
         OptionWord::Flag(_) | OptionWord::Switch(_, _) => None,
     }
@@ -219,7 +222,7 @@ fn is_late(command: Command, over: bool) -> bool
 {
     match command {
         Command::Run => over,
-        Command::Check => true,
+        Command::Check | Command::Again | Command::Export => true,
     }
 }
 
@@ -232,7 +235,7 @@ fn act_place(late: bool, place: Place) -> Result<Turn, StmtKind>
     Ok(Turn::Goes(place))
 }
 
-/// The place behind a statement's word.
+/// The place after a statement's word.
 #[tactic(auto, unfolding(crate::specs::Turns::opens))]
 fn opens(
     alloc: Global,

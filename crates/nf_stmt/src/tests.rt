@@ -2,7 +2,8 @@
 use crate::{Command, read_program, write_program};
 use std::test::Fail;
 
-// A row a text: `r` for `run` or `c` for `check`, the fault and its place or `ok`, and the text.
+// A row a text: `r` for `run`, `c` for `check`, `a` for `again` or `e` for `export`, the fault and its place or `ok`, and
+// the text.
 const TABLE: &str = "\
 r|0 NoProc|
 r|2 NoProc|  
@@ -93,7 +94,6 @@ r|30 WrongValue|proc netflow arcdata=a maxit1=-1;
 r|30 WrongValue|proc netflow arcdata=a maxit1=1.5;
 r|ok|proc netflow arcdata=a maxit1=007 maxit2=0 pause1=1 pause2=2;
 r|30 MissingSemicolon|proc netflow arcdata=a maxit1=
-r|34 WrongValue|proc netflow arcdata=a pricetype1=queue;
 r|ok|proc netflow arcdata=a pricetype1=Bland pricetype2=first;
 r|34 WrongValue|proc netflow arcdata=a pricetype1=5;
 r|24 UnknownWord|proc netflow arcdata=a; foo;
@@ -215,12 +215,73 @@ r|8 OpenQuote|/* % */ 'x /*
 r|31 RepeatedOption|proc netflow arcdata=a thrunet thrunet foo;
 r|28 OptionNotHere|proc netflow arcdata=a warm maxit1=5 maxit1=5;
 r|27 MissingOption|proc netflow arcdata=a warm; foo;
-r|ok|proc/**/netflow\tarcdata/* = */=/***/a;";
+r|ok|proc/**/netflow\tarcdata/* = */=/***/a;
+r|ok|proc netflow arcdata=a pricetype1=queue pricetype2=Q;
+r|34 WrongValue|proc netflow arcdata=a pricetype1=qu;
+r|ok|proc netflow arcdata=a queuesize1=1 queuesize2=999;
+r|ok|proc netflow arcdata=a queuesize1=010;
+r|34 WrongValue|proc netflow arcdata=a queuesize1=0;
+r|34 WrongValue|proc netflow arcdata=a queuesize2=1000;
+r|34 WrongValue|proc netflow arcdata=a queuesize2=q;
+r|37 RepeatedOption|proc netflow arcdata=a queuesize1=10 queuesize1=11;
+r|28 OptionNotHere|proc netflow arcdata=a warm queuesize1=10;
+r|37 OptionNotHere|proc netflow arcdata=a queuesize2=10 warm;
+r|ok|proc netflow arcdata=a; reset queuesize1=5 pricetype1=q queuesize2=6;
+r|41 WrongValue|proc netflow arcdata=a; reset queuesize2=0;
+r|29 OptionNotHere|proc netflow arcdata=a; save queuesize1=5;
+r|ok|proc netflow arcdata=a; print costranges rhsranges;
+r|41 RepeatedOption|proc netflow arcdata=a; print costranges CostRanges;
+r|29 UnknownWord|proc netflow arcdata=a; show rhsranges;
+r|ok|proc netflow arcdata=a maxflow source=s sink=t;
+r|ok|proc netflow arcdata=a MF source=s sink=t;
+r|ok|proc netflow sp source=s sink=t arcdata=a;
+r|30 MissingOption|proc netflow arcdata=a maxflow;
+r|41 MissingOption|proc netflow arcdata=a shortpath source=s;
+r|39 MissingOption|proc netflow arcdata=a shortpath sink=t;
+r|40 MissingOption|proc netflow arcdata=a maxflow condata=c;
+r|56 WrongTogether|proc netflow arcdata=a maxflow shortpath source=s sink=t;
+r|56 WrongTogether|proc netflow arcdata=a maxflow condata=c source=s sink=t;
+r|59 WrongTogether|proc netflow arcdata=a shortpath nodedata=n source=s sink=t;
+r|55 WrongTogether|proc netflow arcdata=a maxflow supply=5 source=s sink=t;
+r|57 WrongTogether|proc netflow arcdata=a shortpath demand=5 source=s sink=t;
+r|49 WrongTogether|proc netflow arcdata=a thrunet sp source=s sink=t;
+r|45 WrongTogether|proc netflow arcdata=a mf max source=s sink=t;
+r|82 WrongTogether|proc netflow arcdata=a warm conin=c dualin=d sessiondata=s maxflow source=s sink=t;
+r|31 RepeatedOption|proc netflow arcdata=a maxflow mf;
+r|25 WrongValue|proc netflow arcdata=a sp=1;
+r|30 OptionNotHere|proc netflow arcdata=a; reset shortpath;
+c|ok|proc netflow arcdata=a certdata=c maxflow source=s sink=t;
+c|93 WrongTogether|proc netflow arcdata=a certdata=c maxflow source=s sink=t warm conin=c dualin=d sessiondata=s;
+a|22 MissingOption|proc netflow arcdata=a;
+a|33 MissingOption|proc netflow arcdata=a certdata=c;
+a|44 MissingOption|proc netflow arcdata=a warm conin=c dualin=d;
+a|ok|proc netflow arcdata=a warm conin=c dualin=d sessiondata=s;
+a|ok|proc netflow arcdata=a warm conin=c dualin=d sessiondata=s certout=k; cost c; quit;
+a|60 StatementOrder|proc netflow arcdata=a warm conin=c dualin=d sessiondata=s; run;
+a|60 StatementOrder|proc netflow arcdata=a warm conin=c dualin=d sessiondata=s; reset;
+a|66 StatementOrder|proc netflow arcdata=a warm conin=c dualin=d sessiondata=s; quit; quit;
+a|28 OptionNotHere|proc netflow arcdata=a warm maxit1=5;
+e|ok|proc netflow arcdata=a;
+e|ok|proc netflow arcdata=a warm conin=c dualin=d sessiondata=s certdata=c; node n; quit;
+e|23 MissingOption|proc netflow certdata=c;
+e|24 StatementOrder|proc netflow arcdata=a; run;
+e|24 StatementOrder|proc netflow arcdata=a; print arcs;
+e|24 StatementOrder|proc netflow arcdata=a; save certout=k;
+e|49 WrongTogether|proc netflow arcdata=a sp thrunet source=s sink=t;";
 
 fn told(rt: &HostRuntime, text: &[u8], command: Command) -> Result<String, Fail> {
     match read_program(rt.alloc(), text, command) {
         Ok(_) => Ok(format!(in rt.alloc(); "ok")?),
         Err(fault) => Ok(format!(in rt.alloc(); "{} {:?}", fault.at, fault.kind)?),
+    }
+}
+
+fn command_of(letter: &str) -> Command {
+    match letter {
+        "c" => Command::Check,
+        "a" => Command::Again,
+        "e" => Command::Export,
+        _ => Command::Run,
     }
 }
 
@@ -233,11 +294,7 @@ fn table(rt: HostRuntime) -> Result<(), Fail> {
         let Some((expected, text)) = rest.split_once('|') else {
             continue;
         };
-        let command = if command == "c" {
-            Command::Check
-        } else {
-            Command::Run
-        };
+        let command = command_of(command);
         let answer = told(&rt, text.as_bytes(), command)?;
         let seen = format!(in rt.alloc(); "{answer}|{text}")?;
         let wanted = format!(in rt.alloc(); "{expected}|{text}")?;
@@ -266,7 +323,10 @@ proc netflow warm sessiondata=S dualin=d conin=c arcdata=a;;quit|
 proc netflow max certout=z sink='a b' supply=007.50 source=N arcdata=a pricetype1=best maxit1=05 maxit2=1000000;|proc netflow arcdata=a maximize source=N sink=\"a b\" supply=7.5 certout=z maxit1=5 pricetype1=best;~
 proc netflow defcapacity=INF defcontype=G defcost=-0.050 arcdata=a nofuture1 future2;|proc netflow arcdata=a defcost=-0.05 defcapacity=inf defcontype=ge future2;~
 proc netflow arcdata=a; from X; var 'y z' \"q'\" 'd\"' \"W\";|proc netflow arcdata=a;~tailnode X;~var \"y z\" \"q'\" 'd\"' W;~
-proc netflow arcdata=a; reset nofuture1 maxit1=7 Future2; reset; pivot; print arcs problem; show options; save nodeout=B arcout=c; quit;|proc netflow arcdata=a;~reset nofuture1 maxit1=7 future2;~reset;~pivot;~print arcs problem;~show options;~save nodeout=b arcout=c;~quit;~";
+proc netflow arcdata=a; reset nofuture1 maxit1=7 Future2; reset; pivot; print arcs problem; show options; save nodeout=B arcout=c; quit;|proc netflow arcdata=a;~reset nofuture1 maxit1=7 future2;~reset;~pivot;~print arcs problem;~show options;~save nodeout=b arcout=c;~quit;~
+proc netflow sp sink=t source=s arcdata=a queuesize2=7 queuesize1=10 pricetype2=Q;|proc netflow arcdata=a shortpath source=s sink=t pricetype2=queue queuesize2=7;~
+proc netflow arcout=o MF arcdata=a sink=t source=s pricetype1=queue queuesize1=099 future1;|proc netflow arcdata=a maxflow source=s sink=t arcout=o future1 pricetype1=queue queuesize1=99;~
+proc netflow arcdata=a; reset queuesize1=10 pricetype1=q; print rhsranges costranges arcs;|proc netflow arcdata=a;~reset queuesize1=10 pricetype1=queue;~print rhsranges costranges arcs;~";
 
 fn rewritten(rt: &HostRuntime, text: &[u8]) -> Result<String, Fail> {
     let mut out = String::new(rt.alloc());

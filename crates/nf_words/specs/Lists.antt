@@ -38,7 +38,7 @@ option_list =
     numbered 0
     (one "ARCDATA" ∷ one "NODEDATA" ∷ one "CONDATA" ∷ one "CERTDATA"
     ∷ one "CONIN" ∷ one "DUALIN" ∷ one "SESSIONDATA"
-    ∷ one "SPARSECONDATA" ∷ one "THRUNET" ∷ ("MAXIMIZE" ∷ "MAX" ∷ []) ∷ one "WARM"
+    ∷ one "SPARSECONDATA" ∷ one "THRUNET" ∷ ("MAXIMIZE" ∷ "MAX" ∷ []) ∷ one "WARM" ∷ ("MAXFLOW" ∷ "MF" ∷ []) ∷ ("SHORTPATH" ∷ "SP" ∷ [])
     ∷ one "DEFCOST" ∷ one "DEFMINFLOW" ∷ one "DEFCAPACITY" ∷ one "DEFCONTYPE"
     ∷ one "SOURCE" ∷ one "SINK" ∷ one "SUPPLY" ∷ one "DEMAND"
     ∷ one "ARCOUT" ∷ one "NODEOUT" ∷ one "CONOUT" ∷ one "DUALOUT" ∷ one "SESSIONOUT" ∷ one "CERTOUT"
@@ -46,11 +46,11 @@ option_list =
     ∷ one "FEASIBLEPAUSE1" ∷ one "NOFEASIBLEPAUSE1" ∷ one "FEASIBLEPAUSE2" ∷ one "NOFEASIBLEPAUSE2"
     ∷ one "ENDPAUSE1" ∷ one "NOENDPAUSE1"
     ∷ one "FUTURE1" ∷ one "NOFUTURE1" ∷ one "FUTURE2" ∷ one "NOFUTURE2"
-    ∷ one "PRICETYPE1" ∷ one "PRICETYPE2" ∷ [])
+    ∷ one "PRICETYPE1" ∷ one "PRICETYPE2" ∷ one "QUEUESIZE1" ∷ one "QUEUESIZE2" ∷ [])
 
 -- the items of PRINT
 unfoldable pub print_list : List Word
-print_list = numbered 0 (one "PROBLEM" ∷ one "SOLUTION" ∷ one "ARCS" ∷ one "NONARCS" ∷ one "NODES" ∷ one "CONSTRAINTS" ∷ [])
+print_list = numbered 0 (one "PROBLEM" ∷ one "SOLUTION" ∷ one "ARCS" ∷ one "NONARCS" ∷ one "NODES" ∷ one "CONSTRAINTS" ∷ one "COSTRANGES" ∷ one "RHSRANGES" ∷ [])
 
 -- the items of SHOW
 unfoldable pub show_list : List Word
@@ -69,11 +69,11 @@ type_list =
 
 -- the pricing rules
 unfoldable pub price_list : List Word
-price_list = numbered 0 (one "FIRST" ∷ one "BEST" ∷ one "BLAND" ∷ [])
+price_list = numbered 0 (one "FIRST" ∷ one "BEST" ∷ one "BLAND" ∷ ("QUEUE" ∷ "Q" ∷ []) ∷ [])
 
 -- the statuses of columns and rows
 unfoldable pub status_list : List Word
-status_list = numbered 0 (one "LOWERBD" ∷ one "UPPERBD" ∷ one "BASIC" ∷ one "ABSENT" ∷ one "NONE" ∷ [])
+status_list = numbered 0 (one "LOWERBD" ∷ one "UPPERBD" ∷ one "BASIC" ∷ one "ABSENT" ∷ one "NONE" ∷ one "ZERO" ∷ [])
 
 -- the last halts of a session
 unfoldable pub last_list : List Word

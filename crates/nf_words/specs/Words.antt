@@ -1,4 +1,4 @@
--- Words with their kinds, and looking one up without regard to ASCII case. That a table answers the one kind
+-- Words with their kinds, and looking one up without regard to ASCII case. That a table gives the one kind
 -- of a word, or none, rests on it.
 use Rattle.std.specs.Prelude.{◌≡◌, ℕ, Bool, true, ◌&&◌, not, nat_eq, List, [], ◌∷◌, map, Option, Some, None, if◌then◌else◌, ◌++◌}
 use Rattle.std.specs.Char.{to_ascii_lowercase}
@@ -9,7 +9,7 @@ pub record Word : Type 0 where
   pub spelling : List ℕ
   pub kind : ℕ
 
--- Two words agree where they are one without regard to ASCII case.
+-- Two words agree if they are one without regard to ASCII case.
 abbrev pub Agree : List ℕ → List ℕ → Type 0
 Agree a b = map to_ascii_lowercase a ≡ map to_ascii_lowercase b
 

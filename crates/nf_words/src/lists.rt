@@ -48,7 +48,7 @@ pub fn statement_words() -> WordTable<33>
 
 /// The options of PROC, RESET and SAVE, in the order in which PROC's canonical text has them.
 #[tactic(auto, unfolding(crate::specs::Lists::option_list))]
-pub fn option_words() -> WordTable<42>
+pub fn option_words() -> WordTable<48>
     ensures list { words result ≡ option_list }
 {
     table![
@@ -63,45 +63,58 @@ pub fn option_words() -> WordTable<42>
         8: "THRUNET",
         9: "MAXIMIZE" | "MAX",
         10: "WARM",
-        11: "DEFCOST",
-        12: "DEFMINFLOW",
-        13: "DEFCAPACITY",
-        14: "DEFCONTYPE",
-        15: "SOURCE",
-        16: "SINK",
-        17: "SUPPLY",
-        18: "DEMAND",
-        19: "ARCOUT",
-        20: "NODEOUT",
-        21: "CONOUT",
-        22: "DUALOUT",
-        23: "SESSIONOUT",
-        24: "CERTOUT",
-        25: "MAXIT1",
-        26: "MAXIT2",
-        27: "PAUSE1",
-        28: "PAUSE2",
-        29: "FEASIBLEPAUSE1",
-        30: "NOFEASIBLEPAUSE1",
-        31: "FEASIBLEPAUSE2",
-        32: "NOFEASIBLEPAUSE2",
-        33: "ENDPAUSE1",
-        34: "NOENDPAUSE1",
-        35: "FUTURE1",
-        36: "NOFUTURE1",
-        37: "FUTURE2",
-        38: "NOFUTURE2",
-        39: "PRICETYPE1",
-        40: "PRICETYPE2",
+        11: "MAXFLOW" | "MF",
+        12: "SHORTPATH" | "SP",
+        13: "DEFCOST",
+        14: "DEFMINFLOW",
+        15: "DEFCAPACITY",
+        16: "DEFCONTYPE",
+        17: "SOURCE",
+        18: "SINK",
+        19: "SUPPLY",
+        20: "DEMAND",
+        21: "ARCOUT",
+        22: "NODEOUT",
+        23: "CONOUT",
+        24: "DUALOUT",
+        25: "SESSIONOUT",
+        26: "CERTOUT",
+        27: "MAXIT1",
+        28: "MAXIT2",
+        29: "PAUSE1",
+        30: "PAUSE2",
+        31: "FEASIBLEPAUSE1",
+        32: "NOFEASIBLEPAUSE1",
+        33: "FEASIBLEPAUSE2",
+        34: "NOFEASIBLEPAUSE2",
+        35: "ENDPAUSE1",
+        36: "NOENDPAUSE1",
+        37: "FUTURE1",
+        38: "NOFUTURE1",
+        39: "FUTURE2",
+        40: "NOFUTURE2",
+        41: "PRICETYPE1",
+        42: "PRICETYPE2",
+        43: "QUEUESIZE1",
+        44: "QUEUESIZE2",
     ]
 }
 
 /// The items of PRINT.
 #[tactic(auto, unfolding(crate::specs::Lists::print_list))]
-pub fn print_words() -> WordTable<6>
+pub fn print_words() -> WordTable<8>
     ensures list { words result ≡ print_list }
 {
-    table![0: "PROBLEM", 1: "SOLUTION", 2: "ARCS", 3: "NONARCS", 4: "NODES", 5: "CONSTRAINTS"]
+    table![
+        0: "PROBLEM",
+        1: "SOLUTION",
+        2: "ARCS",
+        3: "NONARCS",
+        4: "NODES",
+        5: "CONSTRAINTS",
+        6: "COSTRANGES",
+        7: "RHSRANGES",
+    ]
 }
 
 /// The items of SHOW.
@@ -129,18 +142,18 @@ pub fn type_words() -> WordTable<16>
 
 /// The pricing rules.
 #[tactic(auto, unfolding(crate::specs::Lists::price_list))]
-pub fn price_words() -> WordTable<3>
+pub fn price_words() -> WordTable<5>
     ensures list { words result ≡ price_list }
 {
-    table![0: "FIRST", 1: "BEST", 2: "BLAND"]
+    table![0: "FIRST", 1: "BEST", 2: "BLAND", 3: "QUEUE" | "Q"]
 }
 
 /// The statuses of columns and rows.
 #[tactic(auto, unfolding(crate::specs::Lists::status_list))]
-pub fn status_words() -> WordTable<5>
+pub fn status_words() -> WordTable<6>
     ensures list { words result ≡ status_list }
 {
-    table![0: "LOWERBD", 1: "UPPERBD", 2: "BASIC", 3: "ABSENT", 4: "NONE"]
+    table![0: "LOWERBD", 1: "UPPERBD", 2: "BASIC", 3: "ABSENT", 4: "NONE", 5: "ZERO"]
 }
 
 /// The last halts of a session.

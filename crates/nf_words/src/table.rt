@@ -18,14 +18,14 @@ pub(crate) struct Entry {
 pub struct WordTable<const N: usize> {
     pub(crate) entries: &'static [Entry],
     ghost counted: { length entries.now ≡ N },
-    // The test of the table, which the check computes where a table is made.
+    // The test of the table, which the check computes when a table is made.
     ghost apart: { IsTrue (is_table (map (λ e. record { spelling = e.spelling.now; kind = e.kind.0 }) entries.now)) },
 }
 
 impl<const N: usize> WordTable<N> {
     ghost use Rattle.nf_words.specs.Views.{words};
 
-    /// The kind of the spelling that equals the word without regard to ASCII case; None exactly where there is none.
+    /// The kind of the spelling that equals the word without regard to ASCII case; None exactly if there is none.
     pub fn find(&self, word: &[u8]) -> Option<Kind>
         ensures value { option_map (λ k. k.0) result ≡ find_word (words self.now) word.now }
         ensures some { IfSome result (λ k. (x : Word) × Contains (words self.now) x × Agree x.spelling word.now × (x.kind ≡ k.0)) }

@@ -24,7 +24,7 @@ use Rattle.nf_program.specs.declared.settings.Setting.{Setting}
 use Rattle.nf_program.specs.declared.settings.Setting.TheVariants as setting
 use Rattle.nf_program.specs.Settings.{key_of, count_key, switch_key, rule_key, flag_key, with_setting, with_flag, options_of, no_options, defaults}
 use Rattle.nf_program.specs.Programs.{AreDistinct}
-use Rattle.nf_writer.specs.Canonical.{given, flag_given, count_given, switch_given, rule_given, inputs_of, flags_of, others_of, outputs_of, counts_of, switches_of, rules_of, settings_of}
+use Rattle.nf_writer.specs.Canonical.{given, flag_given, count_given, switch_given, rule_given, inputs_of, flags_of, others_of, outputs_of, counts_of, switches_of, rules_of, sizes_of, settings_of}
 
 -- ---- the options one after the other
 
@@ -42,6 +42,8 @@ module _ (p : ProcOptions) where
       ++ (flag_given flag.Thrunet p.thrunet
       ++ (flag_given flag.Maximize p.maximize
       ++ (flag_given flag.Warm p.warm
+      ++ (flag_given flag.MaxFlow p.maxflow
+      ++ (flag_given flag.ShortPath p.shortpath
       ++ (given (setting.Amount amount.DefCost) p.defcost
       ++ (given (setting.Amount amount.DefMinFlow) p.defminflow
       ++ (given setting.DefCapacity p.defcapacity
@@ -66,11 +68,13 @@ module _ (p : ProcOptions) where
       ++ (switch_given switch.Future1 p.session.future1
       ++ (switch_given switch.Future2 p.session.future2
       ++ (rule_given rule.PriceType1 p.session.pricetype1
-      ++ (rule_given rule.PriceType2 p.session.pricetype2)))))))))))))))))))))))))))))))))))
+      ++ (rule_given rule.PriceType2 p.session.pricetype2
+      ++ (count_given count.QueueSize1 10 p.session.queuesize1
+      ++ count_given count.QueueSize2 10 p.session.queuesize2))))))))))))))))))))))))))))))))))))))
 
   -- the groups are these options
   pub flat : settings_of p ≡ all_settings
-  unfolding all_settings settings_of inputs_of flags_of others_of outputs_of counts_of switches_of rules_of
+  unfolding all_settings settings_of inputs_of flags_of others_of outputs_of counts_of switches_of rules_of sizes_of
   flat = simp append_assoc
 
 -- ---- what they make
@@ -91,6 +95,7 @@ rule_fold : (r : PriceType) (o : RuleOption) (rest : List Setting) (set : PriceT
 rule_fold price.First o rest set h = refl
 rule_fold price.Best o rest set h = ap (λ (x : ProcOptions). fold with_setting x rest) (h price.Best)
 rule_fold price.Bland o rest set h = ap (λ (x : ProcOptions). fold with_setting x rest) (h price.Bland)
+rule_fold price.Queue o rest set h = ap (λ (x : ProcOptions). fold with_setting x rest) (h price.Queue)
 
 count_by : (b : Bool) (n default : ℕ) (o : CountOption) (rest : List Setting) (set : ℕ → ProcOptions) → (n == default) ≡ b → with_setting (set default) (setting.Count o n) ≡ set n → fold with_setting (set default) ((if b then [] else setting.Count o n ∷ []) ++ rest) ≡ fold with_setting (set n) rest
 count_by true n default o rest set e h = ap (λ (k : ℕ). fold with_setting (set k) rest) (sym (eqb-true n default e))
@@ -134,187 +139,211 @@ module _ (p : ProcOptions) where
   o10 = record o9 { warm = p.warm }
 
   abbrev o11 : ProcOptions
-  o11 = record o10 { defcost = p.defcost }
+  o11 = record o10 { maxflow = p.maxflow }
 
   abbrev o12 : ProcOptions
-  o12 = record o11 { defminflow = p.defminflow }
+  o12 = record o11 { shortpath = p.shortpath }
 
   abbrev o13 : ProcOptions
-  o13 = record o12 { defcapacity = p.defcapacity }
+  o13 = record o12 { defcost = p.defcost }
 
   abbrev o14 : ProcOptions
-  o14 = record o13 { defcontype = p.defcontype }
+  o14 = record o13 { defminflow = p.defminflow }
 
   abbrev o15 : ProcOptions
-  o15 = record o14 { source = p.source }
+  o15 = record o14 { defcapacity = p.defcapacity }
 
   abbrev o16 : ProcOptions
-  o16 = record o15 { sink = p.sink }
+  o16 = record o15 { defcontype = p.defcontype }
 
   abbrev o17 : ProcOptions
-  o17 = record o16 { supply = p.supply }
+  o17 = record o16 { source = p.source }
 
   abbrev o18 : ProcOptions
-  o18 = record o17 { demand = p.demand }
+  o18 = record o17 { sink = p.sink }
 
   abbrev o19 : ProcOptions
-  o19 = record o18 { arcout = p.arcout }
+  o19 = record o18 { supply = p.supply }
 
   abbrev o20 : ProcOptions
-  o20 = record o19 { nodeout = p.nodeout }
+  o20 = record o19 { demand = p.demand }
 
   abbrev o21 : ProcOptions
-  o21 = record o20 { conout = p.conout }
+  o21 = record o20 { arcout = p.arcout }
 
   abbrev o22 : ProcOptions
-  o22 = record o21 { dualout = p.dualout }
+  o22 = record o21 { nodeout = p.nodeout }
 
   abbrev o23 : ProcOptions
-  o23 = record o22 { sessionout = p.sessionout }
+  o23 = record o22 { conout = p.conout }
 
   abbrev o24 : ProcOptions
-  o24 = record o23 { certout = p.certout }
-
-  abbrev s25 : SessionOptions
-  s25 = record defaults { maxit1 = p.session.maxit1 }
+  o24 = record o23 { dualout = p.dualout }
 
   abbrev o25 : ProcOptions
-  o25 = record o24 { session = s25 }
-
-  abbrev s26 : SessionOptions
-  s26 = record s25 { maxit2 = p.session.maxit2 }
+  o25 = record o24 { sessionout = p.sessionout }
 
   abbrev o26 : ProcOptions
-  o26 = record o25 { session = s26 }
+  o26 = record o25 { certout = p.certout }
 
   abbrev s27 : SessionOptions
-  s27 = record s26 { pause1 = p.session.pause1 }
+  s27 = record defaults { maxit1 = p.session.maxit1 }
 
   abbrev o27 : ProcOptions
   o27 = record o26 { session = s27 }
 
   abbrev s28 : SessionOptions
-  s28 = record s27 { pause2 = p.session.pause2 }
+  s28 = record s27 { maxit2 = p.session.maxit2 }
 
   abbrev o28 : ProcOptions
   o28 = record o27 { session = s28 }
 
   abbrev s29 : SessionOptions
-  s29 = record s28 { feasiblepause1 = p.session.feasiblepause1 }
+  s29 = record s28 { pause1 = p.session.pause1 }
 
   abbrev o29 : ProcOptions
   o29 = record o28 { session = s29 }
 
   abbrev s30 : SessionOptions
-  s30 = record s29 { feasiblepause2 = p.session.feasiblepause2 }
+  s30 = record s29 { pause2 = p.session.pause2 }
 
   abbrev o30 : ProcOptions
   o30 = record o29 { session = s30 }
 
   abbrev s31 : SessionOptions
-  s31 = record s30 { endpause1 = p.session.endpause1 }
+  s31 = record s30 { feasiblepause1 = p.session.feasiblepause1 }
 
   abbrev o31 : ProcOptions
   o31 = record o30 { session = s31 }
 
   abbrev s32 : SessionOptions
-  s32 = record s31 { future1 = p.session.future1 }
+  s32 = record s31 { feasiblepause2 = p.session.feasiblepause2 }
 
   abbrev o32 : ProcOptions
   o32 = record o31 { session = s32 }
 
   abbrev s33 : SessionOptions
-  s33 = record s32 { future2 = p.session.future2 }
+  s33 = record s32 { endpause1 = p.session.endpause1 }
 
   abbrev o33 : ProcOptions
   o33 = record o32 { session = s33 }
 
   abbrev s34 : SessionOptions
-  s34 = record s33 { pricetype1 = p.session.pricetype1 }
+  s34 = record s33 { future1 = p.session.future1 }
 
   abbrev o34 : ProcOptions
   o34 = record o33 { session = s34 }
 
   abbrev s35 : SessionOptions
-  s35 = record s34 { pricetype2 = p.session.pricetype2 }
+  s35 = record s34 { future2 = p.session.future2 }
 
   abbrev o35 : ProcOptions
   o35 = record o34 { session = s35 }
 
+  abbrev s36 : SessionOptions
+  s36 = record s35 { pricetype1 = p.session.pricetype1 }
+
+  abbrev o36 : ProcOptions
+  o36 = record o35 { session = s36 }
+
+  abbrev s37 : SessionOptions
+  s37 = record s36 { pricetype2 = p.session.pricetype2 }
+
+  abbrev o37 : ProcOptions
+  o37 = record o36 { session = s37 }
+
+  abbrev s38 : SessionOptions
+  s38 = record s37 { queuesize1 = p.session.queuesize1 }
+
+  abbrev o38 : ProcOptions
+  o38 = record o37 { session = s38 }
+
+  abbrev pub r38 : List Setting
+  r38 = count_given count.QueueSize2 10 p.session.queuesize2
+
+  abbrev pub r37 : List Setting
+  r37 = count_given count.QueueSize1 10 p.session.queuesize1 ++ r38
+
+  abbrev pub r36 : List Setting
+  r36 = rule_given rule.PriceType2 p.session.pricetype2 ++ r37
+
+  abbrev pub r35 : List Setting
+  r35 = rule_given rule.PriceType1 p.session.pricetype1 ++ r36
+
   abbrev pub r34 : List Setting
-  r34 = rule_given rule.PriceType2 p.session.pricetype2
+  r34 = switch_given switch.Future2 p.session.future2 ++ r35
 
   abbrev pub r33 : List Setting
-  r33 = rule_given rule.PriceType1 p.session.pricetype1 ++ r34
+  r33 = switch_given switch.Future1 p.session.future1 ++ r34
 
   abbrev pub r32 : List Setting
-  r32 = switch_given switch.Future2 p.session.future2 ++ r33
+  r32 = switch_given switch.EndPause1 p.session.endpause1 ++ r33
 
   abbrev pub r31 : List Setting
-  r31 = switch_given switch.Future1 p.session.future1 ++ r32
+  r31 = switch_given switch.FeasiblePause2 p.session.feasiblepause2 ++ r32
 
   abbrev pub r30 : List Setting
-  r30 = switch_given switch.EndPause1 p.session.endpause1 ++ r31
+  r30 = switch_given switch.FeasiblePause1 p.session.feasiblepause1 ++ r31
 
   abbrev pub r29 : List Setting
-  r29 = switch_given switch.FeasiblePause2 p.session.feasiblepause2 ++ r30
+  r29 = count_given count.Pause2 0 p.session.pause2 ++ r30
 
   abbrev pub r28 : List Setting
-  r28 = switch_given switch.FeasiblePause1 p.session.feasiblepause1 ++ r29
+  r28 = count_given count.Pause1 0 p.session.pause1 ++ r29
 
   abbrev pub r27 : List Setting
-  r27 = count_given count.Pause2 0 p.session.pause2 ++ r28
+  r27 = count_given count.Maxit2 1000000 p.session.maxit2 ++ r28
 
   abbrev pub r26 : List Setting
-  r26 = count_given count.Pause1 0 p.session.pause1 ++ r27
+  r26 = count_given count.Maxit1 1000000 p.session.maxit1 ++ r27
 
   abbrev pub r25 : List Setting
-  r25 = count_given count.Maxit2 1000000 p.session.maxit2 ++ r26
+  r25 = given (setting.Output out.Certout) p.certout ++ r26
 
   abbrev pub r24 : List Setting
-  r24 = count_given count.Maxit1 1000000 p.session.maxit1 ++ r25
+  r24 = given (setting.Output out.Sessionout) p.sessionout ++ r25
 
   abbrev pub r23 : List Setting
-  r23 = given (setting.Output out.Certout) p.certout ++ r24
+  r23 = given (setting.Output out.Dualout) p.dualout ++ r24
 
   abbrev pub r22 : List Setting
-  r22 = given (setting.Output out.Sessionout) p.sessionout ++ r23
+  r22 = given (setting.Output out.Conout) p.conout ++ r23
 
   abbrev pub r21 : List Setting
-  r21 = given (setting.Output out.Dualout) p.dualout ++ r22
+  r21 = given (setting.Output out.Nodeout) p.nodeout ++ r22
 
   abbrev pub r20 : List Setting
-  r20 = given (setting.Output out.Conout) p.conout ++ r21
+  r20 = given (setting.Output out.Arcout) p.arcout ++ r21
 
   abbrev pub r19 : List Setting
-  r19 = given (setting.Output out.Nodeout) p.nodeout ++ r20
+  r19 = given (setting.Amount amount.Demand) p.demand ++ r20
 
   abbrev pub r18 : List Setting
-  r18 = given (setting.Output out.Arcout) p.arcout ++ r19
+  r18 = given (setting.Amount amount.Supply) p.supply ++ r19
 
   abbrev pub r17 : List Setting
-  r17 = given (setting.Amount amount.Demand) p.demand ++ r18
+  r17 = given (setting.Node node.Sink) p.sink ++ r18
 
   abbrev pub r16 : List Setting
-  r16 = given (setting.Amount amount.Supply) p.supply ++ r17
+  r16 = given (setting.Node node.Source) p.source ++ r17
 
   abbrev pub r15 : List Setting
-  r15 = given (setting.Node node.Sink) p.sink ++ r16
+  r15 = given setting.DefConType p.defcontype ++ r16
 
   abbrev pub r14 : List Setting
-  r14 = given (setting.Node node.Source) p.source ++ r15
+  r14 = given setting.DefCapacity p.defcapacity ++ r15
 
   abbrev pub r13 : List Setting
-  r13 = given setting.DefConType p.defcontype ++ r14
+  r13 = given (setting.Amount amount.DefMinFlow) p.defminflow ++ r14
 
   abbrev pub r12 : List Setting
-  r12 = given setting.DefCapacity p.defcapacity ++ r13
+  r12 = given (setting.Amount amount.DefCost) p.defcost ++ r13
 
   abbrev pub r11 : List Setting
-  r11 = given (setting.Amount amount.DefMinFlow) p.defminflow ++ r12
+  r11 = flag_given flag.ShortPath p.shortpath ++ r12
 
   abbrev pub r10 : List Setting
-  r10 = given (setting.Amount amount.DefCost) p.defcost ++ r11
+  r10 = flag_given flag.MaxFlow p.maxflow ++ r11
 
   abbrev pub r9 : List Setting
   r9 = flag_given flag.Warm p.warm ++ r10
@@ -361,31 +390,35 @@ module _ (p : ProcOptions) where
       ∙ flag_fold p.thrunet flag.Thrunet r8 (λ x. record o7 { thrunet = x }) refl
       ∙ flag_fold p.maximize flag.Maximize r9 (λ x. record o8 { maximize = x }) refl
       ∙ flag_fold p.warm flag.Warm r10 (λ x. record o9 { warm = x }) refl
-      ∙ given_fold p.defcost (setting.Amount amount.DefCost) r11 (λ x. record o10 { defcost = x }) (λ a. refl)
-      ∙ given_fold p.defminflow (setting.Amount amount.DefMinFlow) r12 (λ x. record o11 { defminflow = x }) (λ a. refl)
-      ∙ given_fold p.defcapacity setting.DefCapacity r13 (λ x. record o12 { defcapacity = x }) (λ a. refl)
-      ∙ given_fold p.defcontype setting.DefConType r14 (λ x. record o13 { defcontype = x }) (λ a. refl)
-      ∙ given_fold p.source (setting.Node node.Source) r15 (λ x. record o14 { source = x }) (λ a. refl)
-      ∙ given_fold p.sink (setting.Node node.Sink) r16 (λ x. record o15 { sink = x }) (λ a. refl)
-      ∙ given_fold p.supply (setting.Amount amount.Supply) r17 (λ x. record o16 { supply = x }) (λ a. refl)
-      ∙ given_fold p.demand (setting.Amount amount.Demand) r18 (λ x. record o17 { demand = x }) (λ a. refl)
-      ∙ given_fold p.arcout (setting.Output out.Arcout) r19 (λ x. record o18 { arcout = x }) (λ a. refl)
-      ∙ given_fold p.nodeout (setting.Output out.Nodeout) r20 (λ x. record o19 { nodeout = x }) (λ a. refl)
-      ∙ given_fold p.conout (setting.Output out.Conout) r21 (λ x. record o20 { conout = x }) (λ a. refl)
-      ∙ given_fold p.dualout (setting.Output out.Dualout) r22 (λ x. record o21 { dualout = x }) (λ a. refl)
-      ∙ given_fold p.sessionout (setting.Output out.Sessionout) r23 (λ x. record o22 { sessionout = x }) (λ a. refl)
-      ∙ given_fold p.certout (setting.Output out.Certout) r24 (λ x. record o23 { certout = x }) (λ a. refl)
-      ∙ count_fold p.session.maxit1 1000000 count.Maxit1 r25 (λ x. record o24 { session = record defaults { maxit1 = x } }) refl
-      ∙ count_fold p.session.maxit2 1000000 count.Maxit2 r26 (λ x. record o25 { session = record s25 { maxit2 = x } }) refl
-      ∙ count_fold p.session.pause1 0 count.Pause1 r27 (λ x. record o26 { session = record s26 { pause1 = x } }) refl
-      ∙ count_fold p.session.pause2 0 count.Pause2 r28 (λ x. record o27 { session = record s27 { pause2 = x } }) refl
-      ∙ switch_fold p.session.feasiblepause1 switch.FeasiblePause1 r29 (λ x. record o28 { session = record s28 { feasiblepause1 = x } }) refl
-      ∙ switch_fold p.session.feasiblepause2 switch.FeasiblePause2 r30 (λ x. record o29 { session = record s29 { feasiblepause2 = x } }) refl
-      ∙ switch_fold p.session.endpause1 switch.EndPause1 r31 (λ x. record o30 { session = record s30 { endpause1 = x } }) refl
-      ∙ switch_fold p.session.future1 switch.Future1 r32 (λ x. record o31 { session = record s31 { future1 = x } }) refl
-      ∙ switch_fold p.session.future2 switch.Future2 r33 (λ x. record o32 { session = record s32 { future2 = x } }) refl
-      ∙ rule_fold p.session.pricetype1 rule.PriceType1 r34 (λ x. record o33 { session = record s33 { pricetype1 = x } }) (λ r. refl)
-      ∙ ap (fold with_setting o34) (sym (append-nil (rule_given rule.PriceType2 p.session.pricetype2))) ∙ rule_fold p.session.pricetype2 rule.PriceType2 [] (λ x. record o34 { session = record s34 { pricetype2 = x } }) (λ r. refl)
+      ∙ flag_fold p.maxflow flag.MaxFlow r11 (λ x. record o10 { maxflow = x }) refl
+      ∙ flag_fold p.shortpath flag.ShortPath r12 (λ x. record o11 { shortpath = x }) refl
+      ∙ given_fold p.defcost (setting.Amount amount.DefCost) r13 (λ x. record o12 { defcost = x }) (λ a. refl)
+      ∙ given_fold p.defminflow (setting.Amount amount.DefMinFlow) r14 (λ x. record o13 { defminflow = x }) (λ a. refl)
+      ∙ given_fold p.defcapacity setting.DefCapacity r15 (λ x. record o14 { defcapacity = x }) (λ a. refl)
+      ∙ given_fold p.defcontype setting.DefConType r16 (λ x. record o15 { defcontype = x }) (λ a. refl)
+      ∙ given_fold p.source (setting.Node node.Source) r17 (λ x. record o16 { source = x }) (λ a. refl)
+      ∙ given_fold p.sink (setting.Node node.Sink) r18 (λ x. record o17 { sink = x }) (λ a. refl)
+      ∙ given_fold p.supply (setting.Amount amount.Supply) r19 (λ x. record o18 { supply = x }) (λ a. refl)
+      ∙ given_fold p.demand (setting.Amount amount.Demand) r20 (λ x. record o19 { demand = x }) (λ a. refl)
+      ∙ given_fold p.arcout (setting.Output out.Arcout) r21 (λ x. record o20 { arcout = x }) (λ a. refl)
+      ∙ given_fold p.nodeout (setting.Output out.Nodeout) r22 (λ x. record o21 { nodeout = x }) (λ a. refl)
+      ∙ given_fold p.conout (setting.Output out.Conout) r23 (λ x. record o22 { conout = x }) (λ a. refl)
+      ∙ given_fold p.dualout (setting.Output out.Dualout) r24 (λ x. record o23 { dualout = x }) (λ a. refl)
+      ∙ given_fold p.sessionout (setting.Output out.Sessionout) r25 (λ x. record o24 { sessionout = x }) (λ a. refl)
+      ∙ given_fold p.certout (setting.Output out.Certout) r26 (λ x. record o25 { certout = x }) (λ a. refl)
+      ∙ count_fold p.session.maxit1 1000000 count.Maxit1 r27 (λ x. record o26 { session = record defaults { maxit1 = x } }) refl
+      ∙ count_fold p.session.maxit2 1000000 count.Maxit2 r28 (λ x. record o27 { session = record s27 { maxit2 = x } }) refl
+      ∙ count_fold p.session.pause1 0 count.Pause1 r29 (λ x. record o28 { session = record s28 { pause1 = x } }) refl
+      ∙ count_fold p.session.pause2 0 count.Pause2 r30 (λ x. record o29 { session = record s29 { pause2 = x } }) refl
+      ∙ switch_fold p.session.feasiblepause1 switch.FeasiblePause1 r31 (λ x. record o30 { session = record s30 { feasiblepause1 = x } }) refl
+      ∙ switch_fold p.session.feasiblepause2 switch.FeasiblePause2 r32 (λ x. record o31 { session = record s31 { feasiblepause2 = x } }) refl
+      ∙ switch_fold p.session.endpause1 switch.EndPause1 r33 (λ x. record o32 { session = record s32 { endpause1 = x } }) refl
+      ∙ switch_fold p.session.future1 switch.Future1 r34 (λ x. record o33 { session = record s33 { future1 = x } }) refl
+      ∙ switch_fold p.session.future2 switch.Future2 r35 (λ x. record o34 { session = record s34 { future2 = x } }) refl
+      ∙ rule_fold p.session.pricetype1 rule.PriceType1 r36 (λ x. record o35 { session = record s35 { pricetype1 = x } }) (λ r. refl)
+      ∙ rule_fold p.session.pricetype2 rule.PriceType2 r37 (λ x. record o36 { session = record s36 { pricetype2 = x } }) (λ r. refl)
+      ∙ count_fold p.session.queuesize1 10 count.QueueSize1 r38 (λ x. record o37 { session = record s37 { queuesize1 = x } }) refl
+      ∙ ap (fold with_setting o38) (sym (append-nil (count_given count.QueueSize2 10 p.session.queuesize2))) ∙ count_fold p.session.queuesize2 10 count.QueueSize2 [] (λ x. record o38 { session = record s38 { queuesize2 = x } }) refl
 
 -- ---- each once
 
@@ -434,6 +467,7 @@ rule_is : (r : PriceType) (o : RuleOption) → (rule_given o r ≡ []) ⊎ ((s :
 rule_is price.First o = inl refl
 rule_is price.Best o = inr (setting.Rule o price.Best, refl, refl)
 rule_is price.Bland o = inr (setting.Rule o price.Bland, refl, refl)
+rule_is price.Queue o = inr (setting.Rule o price.Queue, refl, refl)
 
 count_is_by : (b : Bool) (n : ℕ) (o : CountOption) → ((if b then [] else setting.Count o n ∷ []) ≡ []) ⊎ ((s : Setting) × ((if b then [] else setting.Count o n ∷ []) ≡ s ∷ []) × (key_of s ≡ count_key o))
 count_is_by true n o = inl refl
@@ -454,31 +488,35 @@ module _ (p : ProcOptions) where
       (rises 8 9 (flag_given flag.Thrunet p.thrunet) (r8 p) (omega arith) (flag_is p.thrunet flag.Thrunet)
       (rises 9 10 (flag_given flag.Maximize p.maximize) (r9 p) (omega arith) (flag_is p.maximize flag.Maximize)
       (rises 10 11 (flag_given flag.Warm p.warm) (r10 p) (omega arith) (flag_is p.warm flag.Warm)
-      (rises 11 12 (given (setting.Amount amount.DefCost) p.defcost) (r11 p) (omega arith) (given_is p.defcost (setting.Amount amount.DefCost) 11 (λ a. refl))
-      (rises 12 13 (given (setting.Amount amount.DefMinFlow) p.defminflow) (r12 p) (omega arith) (given_is p.defminflow (setting.Amount amount.DefMinFlow) 12 (λ a. refl))
-      (rises 13 14 (given setting.DefCapacity p.defcapacity) (r13 p) (omega arith) (given_is p.defcapacity setting.DefCapacity 13 (λ a. refl))
-      (rises 14 15 (given setting.DefConType p.defcontype) (r14 p) (omega arith) (given_is p.defcontype setting.DefConType 14 (λ a. refl))
-      (rises 15 16 (given (setting.Node node.Source) p.source) (r15 p) (omega arith) (given_is p.source (setting.Node node.Source) 15 (λ a. refl))
-      (rises 16 17 (given (setting.Node node.Sink) p.sink) (r16 p) (omega arith) (given_is p.sink (setting.Node node.Sink) 16 (λ a. refl))
-      (rises 17 18 (given (setting.Amount amount.Supply) p.supply) (r17 p) (omega arith) (given_is p.supply (setting.Amount amount.Supply) 17 (λ a. refl))
-      (rises 18 19 (given (setting.Amount amount.Demand) p.demand) (r18 p) (omega arith) (given_is p.demand (setting.Amount amount.Demand) 18 (λ a. refl))
-      (rises 19 20 (given (setting.Output out.Arcout) p.arcout) (r19 p) (omega arith) (given_is p.arcout (setting.Output out.Arcout) 19 (λ a. refl))
-      (rises 20 21 (given (setting.Output out.Nodeout) p.nodeout) (r20 p) (omega arith) (given_is p.nodeout (setting.Output out.Nodeout) 20 (λ a. refl))
-      (rises 21 22 (given (setting.Output out.Conout) p.conout) (r21 p) (omega arith) (given_is p.conout (setting.Output out.Conout) 21 (λ a. refl))
-      (rises 22 23 (given (setting.Output out.Dualout) p.dualout) (r22 p) (omega arith) (given_is p.dualout (setting.Output out.Dualout) 22 (λ a. refl))
-      (rises 23 24 (given (setting.Output out.Sessionout) p.sessionout) (r23 p) (omega arith) (given_is p.sessionout (setting.Output out.Sessionout) 23 (λ a. refl))
-      (rises 24 25 (given (setting.Output out.Certout) p.certout) (r24 p) (omega arith) (given_is p.certout (setting.Output out.Certout) 24 (λ a. refl))
-      (rises 25 26 (count_given count.Maxit1 1000000 p.session.maxit1) (r25 p) (omega arith) (count_is_by (p.session.maxit1 == 1000000) p.session.maxit1 count.Maxit1)
-      (rises 26 27 (count_given count.Maxit2 1000000 p.session.maxit2) (r26 p) (omega arith) (count_is_by (p.session.maxit2 == 1000000) p.session.maxit2 count.Maxit2)
-      (rises 27 28 (count_given count.Pause1 0 p.session.pause1) (r27 p) (omega arith) (count_is_by (p.session.pause1 == 0) p.session.pause1 count.Pause1)
-      (rises 28 29 (count_given count.Pause2 0 p.session.pause2) (r28 p) (omega arith) (count_is_by (p.session.pause2 == 0) p.session.pause2 count.Pause2)
-      (rises 29 31 (switch_given switch.FeasiblePause1 p.session.feasiblepause1) (r29 p) (omega arith) (switch_is p.session.feasiblepause1 switch.FeasiblePause1)
-      (rises 31 33 (switch_given switch.FeasiblePause2 p.session.feasiblepause2) (r30 p) (omega arith) (switch_is p.session.feasiblepause2 switch.FeasiblePause2)
-      (rises 33 35 (switch_given switch.EndPause1 p.session.endpause1) (r31 p) (omega arith) (switch_is p.session.endpause1 switch.EndPause1)
-      (rises 35 37 (switch_given switch.Future1 p.session.future1) (r32 p) (omega arith) (switch_is p.session.future1 switch.Future1)
-      (rises 37 39 (switch_given switch.Future2 p.session.future2) (r33 p) (omega arith) (switch_is p.session.future2 switch.Future2)
-      (rises 39 40 (rule_given rule.PriceType1 p.session.pricetype1) (r34 p) (omega arith) (rule_is p.session.pricetype1 rule.PriceType1)
-      (subst (λ (x : List Setting). Above 40 (map key_of x)) (append-nil (rule_given rule.PriceType2 p.session.pricetype2)) (rises 40 41 (rule_given rule.PriceType2 p.session.pricetype2) [] (omega arith) (rule_is p.session.pricetype2 rule.PriceType2) tt))))))))))))))))))))))))))))))))))))
+      (rises 11 12 (flag_given flag.MaxFlow p.maxflow) (r11 p) (omega arith) (flag_is p.maxflow flag.MaxFlow)
+      (rises 12 13 (flag_given flag.ShortPath p.shortpath) (r12 p) (omega arith) (flag_is p.shortpath flag.ShortPath)
+      (rises 13 14 (given (setting.Amount amount.DefCost) p.defcost) (r13 p) (omega arith) (given_is p.defcost (setting.Amount amount.DefCost) 13 (λ a. refl))
+      (rises 14 15 (given (setting.Amount amount.DefMinFlow) p.defminflow) (r14 p) (omega arith) (given_is p.defminflow (setting.Amount amount.DefMinFlow) 14 (λ a. refl))
+      (rises 15 16 (given setting.DefCapacity p.defcapacity) (r15 p) (omega arith) (given_is p.defcapacity setting.DefCapacity 15 (λ a. refl))
+      (rises 16 17 (given setting.DefConType p.defcontype) (r16 p) (omega arith) (given_is p.defcontype setting.DefConType 16 (λ a. refl))
+      (rises 17 18 (given (setting.Node node.Source) p.source) (r17 p) (omega arith) (given_is p.source (setting.Node node.Source) 17 (λ a. refl))
+      (rises 18 19 (given (setting.Node node.Sink) p.sink) (r18 p) (omega arith) (given_is p.sink (setting.Node node.Sink) 18 (λ a. refl))
+      (rises 19 20 (given (setting.Amount amount.Supply) p.supply) (r19 p) (omega arith) (given_is p.supply (setting.Amount amount.Supply) 19 (λ a. refl))
+      (rises 20 21 (given (setting.Amount amount.Demand) p.demand) (r20 p) (omega arith) (given_is p.demand (setting.Amount amount.Demand) 20 (λ a. refl))
+      (rises 21 22 (given (setting.Output out.Arcout) p.arcout) (r21 p) (omega arith) (given_is p.arcout (setting.Output out.Arcout) 21 (λ a. refl))
+      (rises 22 23 (given (setting.Output out.Nodeout) p.nodeout) (r22 p) (omega arith) (given_is p.nodeout (setting.Output out.Nodeout) 22 (λ a. refl))
+      (rises 23 24 (given (setting.Output out.Conout) p.conout) (r23 p) (omega arith) (given_is p.conout (setting.Output out.Conout) 23 (λ a. refl))
+      (rises 24 25 (given (setting.Output out.Dualout) p.dualout) (r24 p) (omega arith) (given_is p.dualout (setting.Output out.Dualout) 24 (λ a. refl))
+      (rises 25 26 (given (setting.Output out.Sessionout) p.sessionout) (r25 p) (omega arith) (given_is p.sessionout (setting.Output out.Sessionout) 25 (λ a. refl))
+      (rises 26 27 (given (setting.Output out.Certout) p.certout) (r26 p) (omega arith) (given_is p.certout (setting.Output out.Certout) 26 (λ a. refl))
+      (rises 27 28 (count_given count.Maxit1 1000000 p.session.maxit1) (r27 p) (omega arith) (count_is_by (p.session.maxit1 == 1000000) p.session.maxit1 count.Maxit1)
+      (rises 28 29 (count_given count.Maxit2 1000000 p.session.maxit2) (r28 p) (omega arith) (count_is_by (p.session.maxit2 == 1000000) p.session.maxit2 count.Maxit2)
+      (rises 29 30 (count_given count.Pause1 0 p.session.pause1) (r29 p) (omega arith) (count_is_by (p.session.pause1 == 0) p.session.pause1 count.Pause1)
+      (rises 30 31 (count_given count.Pause2 0 p.session.pause2) (r30 p) (omega arith) (count_is_by (p.session.pause2 == 0) p.session.pause2 count.Pause2)
+      (rises 31 33 (switch_given switch.FeasiblePause1 p.session.feasiblepause1) (r31 p) (omega arith) (switch_is p.session.feasiblepause1 switch.FeasiblePause1)
+      (rises 33 35 (switch_given switch.FeasiblePause2 p.session.feasiblepause2) (r32 p) (omega arith) (switch_is p.session.feasiblepause2 switch.FeasiblePause2)
+      (rises 35 37 (switch_given switch.EndPause1 p.session.endpause1) (r33 p) (omega arith) (switch_is p.session.endpause1 switch.EndPause1)
+      (rises 37 39 (switch_given switch.Future1 p.session.future1) (r34 p) (omega arith) (switch_is p.session.future1 switch.Future1)
+      (rises 39 41 (switch_given switch.Future2 p.session.future2) (r35 p) (omega arith) (switch_is p.session.future2 switch.Future2)
+      (rises 41 42 (rule_given rule.PriceType1 p.session.pricetype1) (r36 p) (omega arith) (rule_is p.session.pricetype1 rule.PriceType1)
+      (rises 42 43 (rule_given rule.PriceType2 p.session.pricetype2) (r37 p) (omega arith) (rule_is p.session.pricetype2 rule.PriceType2)
+      (rises 43 44 (count_given count.QueueSize1 10 p.session.queuesize1) (r38 p) (omega arith) (count_is_by (p.session.queuesize1 == 10) p.session.queuesize1 count.QueueSize1)
+      (subst (λ (x : List Setting). Above 44 (map key_of x)) (append-nil (count_given count.QueueSize2 10 p.session.queuesize2)) (rises 44 45 (count_given count.QueueSize2 10 p.session.queuesize2) [] (omega arith) (count_is_by (p.session.queuesize2 == 10) p.session.queuesize2 count.QueueSize2) tt))))))))))))))))))))))))))))))))))))))))
 
   pub settings_distinct : AreDistinct (map key_of (settings_of p))
   settings_distinct = subst (λ (x : List Setting). AreDistinct (map key_of x)) (sym (flat p)) (above_distinct 0 (map key_of (all_settings p)) rising)

@@ -68,6 +68,8 @@ option_known (option.Flag flag.SparseConData) = refl
 option_known (option.Flag flag.Thrunet) = refl
 option_known (option.Flag flag.Maximize) = refl
 option_known (option.Flag flag.Warm) = refl
+option_known (option.Flag flag.MaxFlow) = refl
+option_known (option.Flag flag.ShortPath) = refl
 option_known (option.Amount amount.DefCost) = refl
 option_known (option.Amount amount.DefMinFlow) = refl
 option_known (option.Amount amount.Supply) = refl
@@ -86,6 +88,8 @@ option_known (option.Count count.Maxit1) = refl
 option_known (option.Count count.Maxit2) = refl
 option_known (option.Count count.Pause1) = refl
 option_known (option.Count count.Pause2) = refl
+option_known (option.Count count.QueueSize1) = refl
+option_known (option.Count count.QueueSize2) = refl
 option_known (option.Switch switch.FeasiblePause1 true) = refl
 option_known (option.Switch switch.FeasiblePause1 false) = refl
 option_known (option.Switch switch.FeasiblePause2 true) = refl
@@ -107,6 +111,8 @@ print_known print.Arcs = refl
 print_known print.Nonarcs = refl
 print_known print.Nodes = refl
 print_known print.Constraints = refl
+print_known print.Costranges = refl
+print_known print.Rhsranges = refl
 
 pub show_known : (i : ShowItem) → IsSome (first_spelling show_list (show_number i))
 unfolding show_list
@@ -125,6 +131,7 @@ unfolding price_list
 price_type_known price.First = refl
 price_type_known price.Best = refl
 price_type_known price.Bland = refl
+price_type_known price.Queue = refl
 
 -- so its table can spell it
 pub known_at : (list words : List Word) (k j : ℕ) → words ≡ list → j ≡ k → IsSome (first_spelling list k) → IsSome (first_spelling words j)

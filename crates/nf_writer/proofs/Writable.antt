@@ -38,13 +38,14 @@ use Rattle.nf_frac.proofs.AmountFacts.{whole_small}
 use Rattle.nf_program.specs.declared.program.Bound.TheVariants.{Finite, Infinite}
 use Rattle.nf_program.specs.Values.{lowered, Fits, is_name_byte, IsSetName}
 use Rattle.nf_program.specs.Settings.{word_of, flag_of}
+use Rattle.nf_program.specs.ReadValues.{least_of, most_of}
 use Rattle.nf_program.specs.Grammar.{IsValue, IsSettingBy, IsSetting, Each}
 use Rattle.nf_writer.specs.Canonical.{is_plain}
 use Rattle.nf_text.specs.Bytes.{is_letter, is_word_byte}
 use Rattle.nf_program.proofs.Things.{split_or, split_and}
 use Rattle.nf_writer.proofs.Names.{word_plain, plain_lower, lower_twice, length_lower}
 use Rattle.nf_writer.proofs.Numbers.{amount_small}
-use Rattle.nf_writer.proofs.Canon.{all_settings, flat, r0, r1, r2, r3, r4, r5, r6, r7, r8, r9, r10, r11, r12, r13, r14, r15, r16, r17, r18, r19, r20, r21, r22, r23, r24, r25, r26, r27, r28, r29, r30, r31, r32, r33, r34}
+use Rattle.nf_writer.proofs.Canon.{all_settings, flat, r0, r1, r2, r3, r4, r5, r6, r7, r8, r9, r10, r11, r12, r13, r14, r15, r16, r17, r18, r19, r20, r21, r22, r23, r24, r25, r26, r27, r28, r29, r30, r31, r32, r33, r34, r35, r36, r37, r38}
 
 -- ---- passing over options
 
@@ -64,6 +65,7 @@ any_rule : (q : Setting → Bool) (r : PriceType) (o : RuleOption) (rest : List 
 any_rule q price.First o rest h = refl
 any_rule q price.Best o rest h = ap (λ (b : Bool). b || list_any q rest) (h price.Best)
 any_rule q price.Bland o rest h = ap (λ (b : Bool). b || list_any q rest) (h price.Bland)
+any_rule q price.Queue o rest h = ap (λ (b : Bool). b || list_any q rest) (h price.Queue)
 
 any_count : (q : Setting → Bool) (b : Bool) (n : ℕ) (o : CountOption) (rest : List Setting) → q (setting.Count o n) ≡ false → list_any q ((if b then [] else setting.Count o n ∷ []) ++ rest) ≡ list_any q rest
 any_count q true n o rest h = refl
@@ -76,31 +78,35 @@ warm_flag true rest h = refl
 module _ (p : ProcOptions) where
   not_warm : list_any is_warm_setting (r10 p) ≡ false
   not_warm =
-      any_given is_warm_setting p.defcost (setting.Amount amount.DefCost) (r11 p) (λ a. refl)
-      ∙ any_given is_warm_setting p.defminflow (setting.Amount amount.DefMinFlow) (r12 p) (λ a. refl)
-      ∙ any_given is_warm_setting p.defcapacity setting.DefCapacity (r13 p) (λ a. refl)
-      ∙ any_given is_warm_setting p.defcontype setting.DefConType (r14 p) (λ a. refl)
-      ∙ any_given is_warm_setting p.source (setting.Node node.Source) (r15 p) (λ a. refl)
-      ∙ any_given is_warm_setting p.sink (setting.Node node.Sink) (r16 p) (λ a. refl)
-      ∙ any_given is_warm_setting p.supply (setting.Amount amount.Supply) (r17 p) (λ a. refl)
-      ∙ any_given is_warm_setting p.demand (setting.Amount amount.Demand) (r18 p) (λ a. refl)
-      ∙ any_given is_warm_setting p.arcout (setting.Output out.Arcout) (r19 p) (λ a. refl)
-      ∙ any_given is_warm_setting p.nodeout (setting.Output out.Nodeout) (r20 p) (λ a. refl)
-      ∙ any_given is_warm_setting p.conout (setting.Output out.Conout) (r21 p) (λ a. refl)
-      ∙ any_given is_warm_setting p.dualout (setting.Output out.Dualout) (r22 p) (λ a. refl)
-      ∙ any_given is_warm_setting p.sessionout (setting.Output out.Sessionout) (r23 p) (λ a. refl)
-      ∙ any_given is_warm_setting p.certout (setting.Output out.Certout) (r24 p) (λ a. refl)
-      ∙ any_count is_warm_setting (p.session.maxit1 == 1000000) p.session.maxit1 count.Maxit1 (r25 p) refl
-      ∙ any_count is_warm_setting (p.session.maxit2 == 1000000) p.session.maxit2 count.Maxit2 (r26 p) refl
-      ∙ any_count is_warm_setting (p.session.pause1 == 0) p.session.pause1 count.Pause1 (r27 p) refl
-      ∙ any_count is_warm_setting (p.session.pause2 == 0) p.session.pause2 count.Pause2 (r28 p) refl
-      ∙ any_switch is_warm_setting p.session.feasiblepause1 switch.FeasiblePause1 (r29 p) refl
-      ∙ any_switch is_warm_setting p.session.feasiblepause2 switch.FeasiblePause2 (r30 p) refl
-      ∙ any_switch is_warm_setting p.session.endpause1 switch.EndPause1 (r31 p) refl
-      ∙ any_switch is_warm_setting p.session.future1 switch.Future1 (r32 p) refl
-      ∙ any_switch is_warm_setting p.session.future2 switch.Future2 (r33 p) refl
-      ∙ any_rule is_warm_setting p.session.pricetype1 rule.PriceType1 (r34 p) (λ r. refl)
-      ∙ ap (list_any is_warm_setting) (sym (append-nil (rule_given rule.PriceType2 p.session.pricetype2))) ∙ any_rule is_warm_setting p.session.pricetype2 rule.PriceType2 [] (λ r. refl)
+      any_flag is_warm_setting p.maxflow flag.MaxFlow (r11 p) refl
+      ∙ any_flag is_warm_setting p.shortpath flag.ShortPath (r12 p) refl
+      ∙ any_given is_warm_setting p.defcost (setting.Amount amount.DefCost) (r13 p) (λ a. refl)
+      ∙ any_given is_warm_setting p.defminflow (setting.Amount amount.DefMinFlow) (r14 p) (λ a. refl)
+      ∙ any_given is_warm_setting p.defcapacity setting.DefCapacity (r15 p) (λ a. refl)
+      ∙ any_given is_warm_setting p.defcontype setting.DefConType (r16 p) (λ a. refl)
+      ∙ any_given is_warm_setting p.source (setting.Node node.Source) (r17 p) (λ a. refl)
+      ∙ any_given is_warm_setting p.sink (setting.Node node.Sink) (r18 p) (λ a. refl)
+      ∙ any_given is_warm_setting p.supply (setting.Amount amount.Supply) (r19 p) (λ a. refl)
+      ∙ any_given is_warm_setting p.demand (setting.Amount amount.Demand) (r20 p) (λ a. refl)
+      ∙ any_given is_warm_setting p.arcout (setting.Output out.Arcout) (r21 p) (λ a. refl)
+      ∙ any_given is_warm_setting p.nodeout (setting.Output out.Nodeout) (r22 p) (λ a. refl)
+      ∙ any_given is_warm_setting p.conout (setting.Output out.Conout) (r23 p) (λ a. refl)
+      ∙ any_given is_warm_setting p.dualout (setting.Output out.Dualout) (r24 p) (λ a. refl)
+      ∙ any_given is_warm_setting p.sessionout (setting.Output out.Sessionout) (r25 p) (λ a. refl)
+      ∙ any_given is_warm_setting p.certout (setting.Output out.Certout) (r26 p) (λ a. refl)
+      ∙ any_count is_warm_setting (p.session.maxit1 == 1000000) p.session.maxit1 count.Maxit1 (r27 p) refl
+      ∙ any_count is_warm_setting (p.session.maxit2 == 1000000) p.session.maxit2 count.Maxit2 (r28 p) refl
+      ∙ any_count is_warm_setting (p.session.pause1 == 0) p.session.pause1 count.Pause1 (r29 p) refl
+      ∙ any_count is_warm_setting (p.session.pause2 == 0) p.session.pause2 count.Pause2 (r30 p) refl
+      ∙ any_switch is_warm_setting p.session.feasiblepause1 switch.FeasiblePause1 (r31 p) refl
+      ∙ any_switch is_warm_setting p.session.feasiblepause2 switch.FeasiblePause2 (r32 p) refl
+      ∙ any_switch is_warm_setting p.session.endpause1 switch.EndPause1 (r33 p) refl
+      ∙ any_switch is_warm_setting p.session.future1 switch.Future1 (r34 p) refl
+      ∙ any_switch is_warm_setting p.session.future2 switch.Future2 (r35 p) refl
+      ∙ any_rule is_warm_setting p.session.pricetype1 rule.PriceType1 (r36 p) (λ r. refl)
+      ∙ any_rule is_warm_setting p.session.pricetype2 rule.PriceType2 (r37 p) (λ r. refl)
+      ∙ any_count is_warm_setting (p.session.queuesize1 == 10) p.session.queuesize1 count.QueueSize1 (r38 p) refl
+      ∙ ap (list_any is_warm_setting) (sym (append-nil (count_given count.QueueSize2 10 p.session.queuesize2))) ∙ any_count is_warm_setting (p.session.queuesize2 == 10) p.session.queuesize2 count.QueueSize2 [] refl
 
   pub any_warm : list_any is_warm_setting (all_settings p) ≡ p.warm
   unfolding all_settings
@@ -131,21 +137,23 @@ module _ (p : ProcOptions) where
       ∙ any_flag is_session_setting p.thrunet flag.Thrunet (r8 p) refl
       ∙ any_flag is_session_setting p.maximize flag.Maximize (r9 p) refl
       ∙ any_flag is_session_setting p.warm flag.Warm (r10 p) refl
-      ∙ any_given is_session_setting p.defcost (setting.Amount amount.DefCost) (r11 p) (λ a. refl)
-      ∙ any_given is_session_setting p.defminflow (setting.Amount amount.DefMinFlow) (r12 p) (λ a. refl)
-      ∙ any_given is_session_setting p.defcapacity setting.DefCapacity (r13 p) (λ a. refl)
-      ∙ any_given is_session_setting p.defcontype setting.DefConType (r14 p) (λ a. refl)
-      ∙ any_given is_session_setting p.source (setting.Node node.Source) (r15 p) (λ a. refl)
-      ∙ any_given is_session_setting p.sink (setting.Node node.Sink) (r16 p) (λ a. refl)
-      ∙ any_given is_session_setting p.supply (setting.Amount amount.Supply) (r17 p) (λ a. refl)
-      ∙ any_given is_session_setting p.demand (setting.Amount amount.Demand) (r18 p) (λ a. refl)
-      ∙ any_given is_session_setting p.arcout (setting.Output out.Arcout) (r19 p) (λ a. refl)
-      ∙ any_given is_session_setting p.nodeout (setting.Output out.Nodeout) (r20 p) (λ a. refl)
-      ∙ any_given is_session_setting p.conout (setting.Output out.Conout) (r21 p) (λ a. refl)
-      ∙ any_given is_session_setting p.dualout (setting.Output out.Dualout) (r22 p) (λ a. refl)
-      ∙ any_given is_session_setting p.sessionout (setting.Output out.Sessionout) (r23 p) (λ a. refl)
-      ∙ any_given is_session_setting p.certout (setting.Output out.Certout) (r24 p) (λ a. refl)
-      ∙ ap (λ (s : SessionOptions). list_any is_session_setting (count_given count.Maxit1 1000000 s.maxit1 ++ (count_given count.Maxit2 1000000 s.maxit2 ++ (count_given count.Pause1 0 s.pause1 ++ (count_given count.Pause2 0 s.pause2 ++ (switch_given switch.FeasiblePause1 s.feasiblepause1 ++ (switch_given switch.FeasiblePause2 s.feasiblepause2 ++ (switch_given switch.EndPause1 s.endpause1 ++ (switch_given switch.Future1 s.future1 ++ (switch_given switch.Future2 s.future2 ++ (rule_given rule.PriceType1 s.pricetype1 ++ (rule_given rule.PriceType2 s.pricetype2)))))))))))) e
+      ∙ any_flag is_session_setting p.maxflow flag.MaxFlow (r11 p) refl
+      ∙ any_flag is_session_setting p.shortpath flag.ShortPath (r12 p) refl
+      ∙ any_given is_session_setting p.defcost (setting.Amount amount.DefCost) (r13 p) (λ a. refl)
+      ∙ any_given is_session_setting p.defminflow (setting.Amount amount.DefMinFlow) (r14 p) (λ a. refl)
+      ∙ any_given is_session_setting p.defcapacity setting.DefCapacity (r15 p) (λ a. refl)
+      ∙ any_given is_session_setting p.defcontype setting.DefConType (r16 p) (λ a. refl)
+      ∙ any_given is_session_setting p.source (setting.Node node.Source) (r17 p) (λ a. refl)
+      ∙ any_given is_session_setting p.sink (setting.Node node.Sink) (r18 p) (λ a. refl)
+      ∙ any_given is_session_setting p.supply (setting.Amount amount.Supply) (r19 p) (λ a. refl)
+      ∙ any_given is_session_setting p.demand (setting.Amount amount.Demand) (r20 p) (λ a. refl)
+      ∙ any_given is_session_setting p.arcout (setting.Output out.Arcout) (r21 p) (λ a. refl)
+      ∙ any_given is_session_setting p.nodeout (setting.Output out.Nodeout) (r22 p) (λ a. refl)
+      ∙ any_given is_session_setting p.conout (setting.Output out.Conout) (r23 p) (λ a. refl)
+      ∙ any_given is_session_setting p.dualout (setting.Output out.Dualout) (r24 p) (λ a. refl)
+      ∙ any_given is_session_setting p.sessionout (setting.Output out.Sessionout) (r25 p) (λ a. refl)
+      ∙ any_given is_session_setting p.certout (setting.Output out.Certout) (r26 p) (λ a. refl)
+      ∙ ap (λ (s : SessionOptions). list_any is_session_setting (count_given count.Maxit1 1000000 s.maxit1 ++ (count_given count.Maxit2 1000000 s.maxit2 ++ (count_given count.Pause1 0 s.pause1 ++ (count_given count.Pause2 0 s.pause2 ++ (switch_given switch.FeasiblePause1 s.feasiblepause1 ++ (switch_given switch.FeasiblePause2 s.feasiblepause2 ++ (switch_given switch.EndPause1 s.endpause1 ++ (switch_given switch.Future1 s.future1 ++ (switch_given switch.Future2 s.future2 ++ (rule_given rule.PriceType1 s.pricetype1 ++ (rule_given rule.PriceType2 s.pricetype2 ++ (count_given count.QueueSize1 10 s.queuesize1 ++ (count_given count.QueueSize2 10 s.queuesize2)))))))))))))) e
 
 -- ---- what the options of a text make of PROC
 
@@ -171,6 +179,8 @@ warm_step o (setting.Input input.Sessiondata n) = or_nothing o.warm
 warm_step o (setting.Flag flag.SparseConData) = or_nothing o.warm
 warm_step o (setting.Flag flag.Thrunet) = or_nothing o.warm
 warm_step o (setting.Flag flag.Maximize) = or_nothing o.warm
+warm_step o (setting.Flag flag.MaxFlow) = or_nothing o.warm
+warm_step o (setting.Flag flag.ShortPath) = or_nothing o.warm
 warm_step o (setting.Amount amount.DefCost a) = or_nothing o.warm
 warm_step o (setting.Amount amount.DefMinFlow a) = or_nothing o.warm
 warm_step o (setting.Amount amount.Supply a) = or_nothing o.warm
@@ -189,6 +199,8 @@ warm_step o (setting.Count count.Maxit1 n) = or_nothing o.warm
 warm_step o (setting.Count count.Maxit2 n) = or_nothing o.warm
 warm_step o (setting.Count count.Pause1 n) = or_nothing o.warm
 warm_step o (setting.Count count.Pause2 n) = or_nothing o.warm
+warm_step o (setting.Count count.QueueSize1 n) = or_nothing o.warm
+warm_step o (setting.Count count.QueueSize2 n) = or_nothing o.warm
 warm_step o (setting.Switch switch.FeasiblePause1 b) = or_nothing o.warm
 warm_step o (setting.Switch switch.FeasiblePause2 b) = or_nothing o.warm
 warm_step o (setting.Switch switch.EndPause1 b) = or_nothing o.warm
@@ -231,6 +243,8 @@ session_step o (setting.Output out.Dualout n) e = refl
 session_step o (setting.Output out.Sessionout n) e = refl
 session_step o (setting.Output out.Certout n) e = refl
 session_step o (setting.Flag flag.Warm) e = refl
+session_step o (setting.Flag flag.MaxFlow) e = refl
+session_step o (setting.Flag flag.ShortPath) e = refl
 session_step o (setting.Count c n) e = absurd cc
 session_step o (setting.Switch c b) e = absurd cc
 session_step o (setting.Rule c r) e = absurd cc
@@ -265,6 +279,9 @@ settings_apart p ss made apart =
 unfoldable pub SetOk : List ℕ → Type 0
 SetOk n = (is_plain n ≡ true) × (n ≡ lowered n) × Fits n
 
+abbrev pub CountOk : CountOption → ℕ → Type 0
+CountOk o n = (n < 1_000_000_000) × (least_of o ≤ n) × (n ≤ most_of o)
+
 unfoldable pub SettingOk : Setting → Type 0
 SettingOk (setting.Input o n) = SetOk n
 SettingOk (setting.Output o n) = SetOk n
@@ -273,7 +290,7 @@ SettingOk (setting.DefCapacity (Finite a)) = unsigned_abs a.thousandths ≤ 999_
 SettingOk (setting.DefCapacity Infinite) = Unit {0}
 SettingOk (setting.DefConType t) = Unit {0}
 SettingOk (setting.Node o n) = (list_all is_name_byte n ≡ true) × Fits n
-SettingOk (setting.Count o n) = n < 1_000_000_000
+SettingOk (setting.Count o n) = CountOk o n
 SettingOk (setting.Flag o) = Unit {0}
 SettingOk (setting.Switch o b) = Unit {0}
 SettingOk (setting.Rule o r) = Unit {0}
@@ -294,7 +311,7 @@ value_ok (setting.DefCapacity (Finite a)) v h piece = amount_small v.bytes a h.1
 value_ok (setting.DefCapacity Infinite) v h piece = tt
 value_ok (setting.DefConType t) v h piece = tt
 value_ok (setting.Node o n) v h piece = (h.1, h.2)
-value_ok (setting.Count o n) v h piece = subst (λ (k : ℕ). k < 1_000_000_000) (sym h.3) (whole_small v.bytes h.1 h.2)
+value_ok (setting.Count o n) v h piece = (subst (λ (k : ℕ). k < 1_000_000_000) (sym h.0.3) (whole_small v.bytes h.0.1 h.0.2), h.1, h.2)
 value_ok (setting.Rule o r) v h piece = tt
 value_ok (setting.Flag o) v h piece = tt
 value_ok (setting.Switch o b) v h piece = tt
@@ -367,53 +384,59 @@ pub record ProcOk (p : ProcOptions) : Type 0 where
   dualout_ok : Given (setting.Output out.Dualout) p.dualout
   sessionout_ok : Given (setting.Output out.Sessionout) p.sessionout
   certout_ok : Given (setting.Output out.Certout) p.certout
-  maxit1_ok : p.session.maxit1 < 1_000_000_000
-  maxit2_ok : p.session.maxit2 < 1_000_000_000
-  pause1_ok : p.session.pause1 < 1_000_000_000
-  pause2_ok : p.session.pause2 < 1_000_000_000
+  maxit1_ok : CountOk count.Maxit1 p.session.maxit1
+  maxit2_ok : CountOk count.Maxit2 p.session.maxit2
+  pause1_ok : CountOk count.Pause1 p.session.pause1
+  pause2_ok : CountOk count.Pause2 p.session.pause2
+  queuesize1_ok : CountOk count.QueueSize1 p.session.queuesize1
+  queuesize2_ok : CountOk count.QueueSize2 p.session.queuesize2
 
 none_ok : ProcOk no_options
 unfolding Given
-none_ok = record { arcdata_ok = tt; nodedata_ok = tt; condata_ok = tt; certdata_ok = tt; conin_ok = tt; dualin_ok = tt; sessiondata_ok = tt; defcost_ok = tt; defminflow_ok = tt; defcapacity_ok = tt; defcontype_ok = tt; source_ok = tt; sink_ok = tt; supply_ok = tt; demand_ok = tt; arcout_ok = tt; nodeout_ok = tt; conout_ok = tt; dualout_ok = tt; sessionout_ok = tt; certout_ok = tt; maxit1_ok = omega arith; maxit2_ok = omega arith; pause1_ok = omega arith; pause2_ok = omega arith }
+none_ok = record { arcdata_ok = tt; nodedata_ok = tt; condata_ok = tt; certdata_ok = tt; conin_ok = tt; dualin_ok = tt; sessiondata_ok = tt; defcost_ok = tt; defminflow_ok = tt; defcapacity_ok = tt; defcontype_ok = tt; source_ok = tt; sink_ok = tt; supply_ok = tt; demand_ok = tt; arcout_ok = tt; nodeout_ok = tt; conout_ok = tt; dualout_ok = tt; sessionout_ok = tt; certout_ok = tt; maxit1_ok = (omega arith, omega arith, omega arith); maxit2_ok = (omega arith, omega arith, omega arith); pause1_ok = (omega arith, omega arith, omega arith); pause2_ok = (omega arith, omega arith, omega arith); queuesize1_ok = (omega arith, omega arith, omega arith); queuesize2_ok = (omega arith, omega arith, omega arith) }
 
 with_ok : (p : ProcOptions) (s : Setting) → ProcOk p → SettingOk s → ProcOk (with_setting p s)
 unfolding Given SettingOk
-with_ok p (setting.Input input.Arcdata n) h k = record { arcdata_ok = k; nodedata_ok = h.nodedata_ok; condata_ok = h.condata_ok; certdata_ok = h.certdata_ok; conin_ok = h.conin_ok; dualin_ok = h.dualin_ok; sessiondata_ok = h.sessiondata_ok; defcost_ok = h.defcost_ok; defminflow_ok = h.defminflow_ok; defcapacity_ok = h.defcapacity_ok; defcontype_ok = h.defcontype_ok; source_ok = h.source_ok; sink_ok = h.sink_ok; supply_ok = h.supply_ok; demand_ok = h.demand_ok; arcout_ok = h.arcout_ok; nodeout_ok = h.nodeout_ok; conout_ok = h.conout_ok; dualout_ok = h.dualout_ok; sessionout_ok = h.sessionout_ok; certout_ok = h.certout_ok; maxit1_ok = h.maxit1_ok; maxit2_ok = h.maxit2_ok; pause1_ok = h.pause1_ok; pause2_ok = h.pause2_ok }
-with_ok p (setting.Input input.Nodedata n) h k = record { arcdata_ok = h.arcdata_ok; nodedata_ok = k; condata_ok = h.condata_ok; certdata_ok = h.certdata_ok; conin_ok = h.conin_ok; dualin_ok = h.dualin_ok; sessiondata_ok = h.sessiondata_ok; defcost_ok = h.defcost_ok; defminflow_ok = h.defminflow_ok; defcapacity_ok = h.defcapacity_ok; defcontype_ok = h.defcontype_ok; source_ok = h.source_ok; sink_ok = h.sink_ok; supply_ok = h.supply_ok; demand_ok = h.demand_ok; arcout_ok = h.arcout_ok; nodeout_ok = h.nodeout_ok; conout_ok = h.conout_ok; dualout_ok = h.dualout_ok; sessionout_ok = h.sessionout_ok; certout_ok = h.certout_ok; maxit1_ok = h.maxit1_ok; maxit2_ok = h.maxit2_ok; pause1_ok = h.pause1_ok; pause2_ok = h.pause2_ok }
-with_ok p (setting.Input input.Condata n) h k = record { arcdata_ok = h.arcdata_ok; nodedata_ok = h.nodedata_ok; condata_ok = k; certdata_ok = h.certdata_ok; conin_ok = h.conin_ok; dualin_ok = h.dualin_ok; sessiondata_ok = h.sessiondata_ok; defcost_ok = h.defcost_ok; defminflow_ok = h.defminflow_ok; defcapacity_ok = h.defcapacity_ok; defcontype_ok = h.defcontype_ok; source_ok = h.source_ok; sink_ok = h.sink_ok; supply_ok = h.supply_ok; demand_ok = h.demand_ok; arcout_ok = h.arcout_ok; nodeout_ok = h.nodeout_ok; conout_ok = h.conout_ok; dualout_ok = h.dualout_ok; sessionout_ok = h.sessionout_ok; certout_ok = h.certout_ok; maxit1_ok = h.maxit1_ok; maxit2_ok = h.maxit2_ok; pause1_ok = h.pause1_ok; pause2_ok = h.pause2_ok }
-with_ok p (setting.Input input.Certdata n) h k = record { arcdata_ok = h.arcdata_ok; nodedata_ok = h.nodedata_ok; condata_ok = h.condata_ok; certdata_ok = k; conin_ok = h.conin_ok; dualin_ok = h.dualin_ok; sessiondata_ok = h.sessiondata_ok; defcost_ok = h.defcost_ok; defminflow_ok = h.defminflow_ok; defcapacity_ok = h.defcapacity_ok; defcontype_ok = h.defcontype_ok; source_ok = h.source_ok; sink_ok = h.sink_ok; supply_ok = h.supply_ok; demand_ok = h.demand_ok; arcout_ok = h.arcout_ok; nodeout_ok = h.nodeout_ok; conout_ok = h.conout_ok; dualout_ok = h.dualout_ok; sessionout_ok = h.sessionout_ok; certout_ok = h.certout_ok; maxit1_ok = h.maxit1_ok; maxit2_ok = h.maxit2_ok; pause1_ok = h.pause1_ok; pause2_ok = h.pause2_ok }
-with_ok p (setting.Input input.Conin n) h k = record { arcdata_ok = h.arcdata_ok; nodedata_ok = h.nodedata_ok; condata_ok = h.condata_ok; certdata_ok = h.certdata_ok; conin_ok = k; dualin_ok = h.dualin_ok; sessiondata_ok = h.sessiondata_ok; defcost_ok = h.defcost_ok; defminflow_ok = h.defminflow_ok; defcapacity_ok = h.defcapacity_ok; defcontype_ok = h.defcontype_ok; source_ok = h.source_ok; sink_ok = h.sink_ok; supply_ok = h.supply_ok; demand_ok = h.demand_ok; arcout_ok = h.arcout_ok; nodeout_ok = h.nodeout_ok; conout_ok = h.conout_ok; dualout_ok = h.dualout_ok; sessionout_ok = h.sessionout_ok; certout_ok = h.certout_ok; maxit1_ok = h.maxit1_ok; maxit2_ok = h.maxit2_ok; pause1_ok = h.pause1_ok; pause2_ok = h.pause2_ok }
-with_ok p (setting.Input input.Dualin n) h k = record { arcdata_ok = h.arcdata_ok; nodedata_ok = h.nodedata_ok; condata_ok = h.condata_ok; certdata_ok = h.certdata_ok; conin_ok = h.conin_ok; dualin_ok = k; sessiondata_ok = h.sessiondata_ok; defcost_ok = h.defcost_ok; defminflow_ok = h.defminflow_ok; defcapacity_ok = h.defcapacity_ok; defcontype_ok = h.defcontype_ok; source_ok = h.source_ok; sink_ok = h.sink_ok; supply_ok = h.supply_ok; demand_ok = h.demand_ok; arcout_ok = h.arcout_ok; nodeout_ok = h.nodeout_ok; conout_ok = h.conout_ok; dualout_ok = h.dualout_ok; sessionout_ok = h.sessionout_ok; certout_ok = h.certout_ok; maxit1_ok = h.maxit1_ok; maxit2_ok = h.maxit2_ok; pause1_ok = h.pause1_ok; pause2_ok = h.pause2_ok }
-with_ok p (setting.Input input.Sessiondata n) h k = record { arcdata_ok = h.arcdata_ok; nodedata_ok = h.nodedata_ok; condata_ok = h.condata_ok; certdata_ok = h.certdata_ok; conin_ok = h.conin_ok; dualin_ok = h.dualin_ok; sessiondata_ok = k; defcost_ok = h.defcost_ok; defminflow_ok = h.defminflow_ok; defcapacity_ok = h.defcapacity_ok; defcontype_ok = h.defcontype_ok; source_ok = h.source_ok; sink_ok = h.sink_ok; supply_ok = h.supply_ok; demand_ok = h.demand_ok; arcout_ok = h.arcout_ok; nodeout_ok = h.nodeout_ok; conout_ok = h.conout_ok; dualout_ok = h.dualout_ok; sessionout_ok = h.sessionout_ok; certout_ok = h.certout_ok; maxit1_ok = h.maxit1_ok; maxit2_ok = h.maxit2_ok; pause1_ok = h.pause1_ok; pause2_ok = h.pause2_ok }
-with_ok p (setting.Flag flag.SparseConData) h k = record { arcdata_ok = h.arcdata_ok; nodedata_ok = h.nodedata_ok; condata_ok = h.condata_ok; certdata_ok = h.certdata_ok; conin_ok = h.conin_ok; dualin_ok = h.dualin_ok; sessiondata_ok = h.sessiondata_ok; defcost_ok = h.defcost_ok; defminflow_ok = h.defminflow_ok; defcapacity_ok = h.defcapacity_ok; defcontype_ok = h.defcontype_ok; source_ok = h.source_ok; sink_ok = h.sink_ok; supply_ok = h.supply_ok; demand_ok = h.demand_ok; arcout_ok = h.arcout_ok; nodeout_ok = h.nodeout_ok; conout_ok = h.conout_ok; dualout_ok = h.dualout_ok; sessionout_ok = h.sessionout_ok; certout_ok = h.certout_ok; maxit1_ok = h.maxit1_ok; maxit2_ok = h.maxit2_ok; pause1_ok = h.pause1_ok; pause2_ok = h.pause2_ok }
-with_ok p (setting.Flag flag.Thrunet) h k = record { arcdata_ok = h.arcdata_ok; nodedata_ok = h.nodedata_ok; condata_ok = h.condata_ok; certdata_ok = h.certdata_ok; conin_ok = h.conin_ok; dualin_ok = h.dualin_ok; sessiondata_ok = h.sessiondata_ok; defcost_ok = h.defcost_ok; defminflow_ok = h.defminflow_ok; defcapacity_ok = h.defcapacity_ok; defcontype_ok = h.defcontype_ok; source_ok = h.source_ok; sink_ok = h.sink_ok; supply_ok = h.supply_ok; demand_ok = h.demand_ok; arcout_ok = h.arcout_ok; nodeout_ok = h.nodeout_ok; conout_ok = h.conout_ok; dualout_ok = h.dualout_ok; sessionout_ok = h.sessionout_ok; certout_ok = h.certout_ok; maxit1_ok = h.maxit1_ok; maxit2_ok = h.maxit2_ok; pause1_ok = h.pause1_ok; pause2_ok = h.pause2_ok }
-with_ok p (setting.Flag flag.Maximize) h k = record { arcdata_ok = h.arcdata_ok; nodedata_ok = h.nodedata_ok; condata_ok = h.condata_ok; certdata_ok = h.certdata_ok; conin_ok = h.conin_ok; dualin_ok = h.dualin_ok; sessiondata_ok = h.sessiondata_ok; defcost_ok = h.defcost_ok; defminflow_ok = h.defminflow_ok; defcapacity_ok = h.defcapacity_ok; defcontype_ok = h.defcontype_ok; source_ok = h.source_ok; sink_ok = h.sink_ok; supply_ok = h.supply_ok; demand_ok = h.demand_ok; arcout_ok = h.arcout_ok; nodeout_ok = h.nodeout_ok; conout_ok = h.conout_ok; dualout_ok = h.dualout_ok; sessionout_ok = h.sessionout_ok; certout_ok = h.certout_ok; maxit1_ok = h.maxit1_ok; maxit2_ok = h.maxit2_ok; pause1_ok = h.pause1_ok; pause2_ok = h.pause2_ok }
-with_ok p (setting.Flag flag.Warm) h k = record { arcdata_ok = h.arcdata_ok; nodedata_ok = h.nodedata_ok; condata_ok = h.condata_ok; certdata_ok = h.certdata_ok; conin_ok = h.conin_ok; dualin_ok = h.dualin_ok; sessiondata_ok = h.sessiondata_ok; defcost_ok = h.defcost_ok; defminflow_ok = h.defminflow_ok; defcapacity_ok = h.defcapacity_ok; defcontype_ok = h.defcontype_ok; source_ok = h.source_ok; sink_ok = h.sink_ok; supply_ok = h.supply_ok; demand_ok = h.demand_ok; arcout_ok = h.arcout_ok; nodeout_ok = h.nodeout_ok; conout_ok = h.conout_ok; dualout_ok = h.dualout_ok; sessionout_ok = h.sessionout_ok; certout_ok = h.certout_ok; maxit1_ok = h.maxit1_ok; maxit2_ok = h.maxit2_ok; pause1_ok = h.pause1_ok; pause2_ok = h.pause2_ok }
-with_ok p (setting.Amount amount.DefCost a) h k = record { arcdata_ok = h.arcdata_ok; nodedata_ok = h.nodedata_ok; condata_ok = h.condata_ok; certdata_ok = h.certdata_ok; conin_ok = h.conin_ok; dualin_ok = h.dualin_ok; sessiondata_ok = h.sessiondata_ok; defcost_ok = k; defminflow_ok = h.defminflow_ok; defcapacity_ok = h.defcapacity_ok; defcontype_ok = h.defcontype_ok; source_ok = h.source_ok; sink_ok = h.sink_ok; supply_ok = h.supply_ok; demand_ok = h.demand_ok; arcout_ok = h.arcout_ok; nodeout_ok = h.nodeout_ok; conout_ok = h.conout_ok; dualout_ok = h.dualout_ok; sessionout_ok = h.sessionout_ok; certout_ok = h.certout_ok; maxit1_ok = h.maxit1_ok; maxit2_ok = h.maxit2_ok; pause1_ok = h.pause1_ok; pause2_ok = h.pause2_ok }
-with_ok p (setting.Amount amount.DefMinFlow a) h k = record { arcdata_ok = h.arcdata_ok; nodedata_ok = h.nodedata_ok; condata_ok = h.condata_ok; certdata_ok = h.certdata_ok; conin_ok = h.conin_ok; dualin_ok = h.dualin_ok; sessiondata_ok = h.sessiondata_ok; defcost_ok = h.defcost_ok; defminflow_ok = k; defcapacity_ok = h.defcapacity_ok; defcontype_ok = h.defcontype_ok; source_ok = h.source_ok; sink_ok = h.sink_ok; supply_ok = h.supply_ok; demand_ok = h.demand_ok; arcout_ok = h.arcout_ok; nodeout_ok = h.nodeout_ok; conout_ok = h.conout_ok; dualout_ok = h.dualout_ok; sessionout_ok = h.sessionout_ok; certout_ok = h.certout_ok; maxit1_ok = h.maxit1_ok; maxit2_ok = h.maxit2_ok; pause1_ok = h.pause1_ok; pause2_ok = h.pause2_ok }
-with_ok p (setting.Amount amount.Supply a) h k = record { arcdata_ok = h.arcdata_ok; nodedata_ok = h.nodedata_ok; condata_ok = h.condata_ok; certdata_ok = h.certdata_ok; conin_ok = h.conin_ok; dualin_ok = h.dualin_ok; sessiondata_ok = h.sessiondata_ok; defcost_ok = h.defcost_ok; defminflow_ok = h.defminflow_ok; defcapacity_ok = h.defcapacity_ok; defcontype_ok = h.defcontype_ok; source_ok = h.source_ok; sink_ok = h.sink_ok; supply_ok = k; demand_ok = h.demand_ok; arcout_ok = h.arcout_ok; nodeout_ok = h.nodeout_ok; conout_ok = h.conout_ok; dualout_ok = h.dualout_ok; sessionout_ok = h.sessionout_ok; certout_ok = h.certout_ok; maxit1_ok = h.maxit1_ok; maxit2_ok = h.maxit2_ok; pause1_ok = h.pause1_ok; pause2_ok = h.pause2_ok }
-with_ok p (setting.Amount amount.Demand a) h k = record { arcdata_ok = h.arcdata_ok; nodedata_ok = h.nodedata_ok; condata_ok = h.condata_ok; certdata_ok = h.certdata_ok; conin_ok = h.conin_ok; dualin_ok = h.dualin_ok; sessiondata_ok = h.sessiondata_ok; defcost_ok = h.defcost_ok; defminflow_ok = h.defminflow_ok; defcapacity_ok = h.defcapacity_ok; defcontype_ok = h.defcontype_ok; source_ok = h.source_ok; sink_ok = h.sink_ok; supply_ok = h.supply_ok; demand_ok = k; arcout_ok = h.arcout_ok; nodeout_ok = h.nodeout_ok; conout_ok = h.conout_ok; dualout_ok = h.dualout_ok; sessionout_ok = h.sessionout_ok; certout_ok = h.certout_ok; maxit1_ok = h.maxit1_ok; maxit2_ok = h.maxit2_ok; pause1_ok = h.pause1_ok; pause2_ok = h.pause2_ok }
-with_ok p (setting.DefCapacity b) h k = record { arcdata_ok = h.arcdata_ok; nodedata_ok = h.nodedata_ok; condata_ok = h.condata_ok; certdata_ok = h.certdata_ok; conin_ok = h.conin_ok; dualin_ok = h.dualin_ok; sessiondata_ok = h.sessiondata_ok; defcost_ok = h.defcost_ok; defminflow_ok = h.defminflow_ok; defcapacity_ok = k; defcontype_ok = h.defcontype_ok; source_ok = h.source_ok; sink_ok = h.sink_ok; supply_ok = h.supply_ok; demand_ok = h.demand_ok; arcout_ok = h.arcout_ok; nodeout_ok = h.nodeout_ok; conout_ok = h.conout_ok; dualout_ok = h.dualout_ok; sessionout_ok = h.sessionout_ok; certout_ok = h.certout_ok; maxit1_ok = h.maxit1_ok; maxit2_ok = h.maxit2_ok; pause1_ok = h.pause1_ok; pause2_ok = h.pause2_ok }
-with_ok p (setting.DefConType t) h k = record { arcdata_ok = h.arcdata_ok; nodedata_ok = h.nodedata_ok; condata_ok = h.condata_ok; certdata_ok = h.certdata_ok; conin_ok = h.conin_ok; dualin_ok = h.dualin_ok; sessiondata_ok = h.sessiondata_ok; defcost_ok = h.defcost_ok; defminflow_ok = h.defminflow_ok; defcapacity_ok = h.defcapacity_ok; defcontype_ok = k; source_ok = h.source_ok; sink_ok = h.sink_ok; supply_ok = h.supply_ok; demand_ok = h.demand_ok; arcout_ok = h.arcout_ok; nodeout_ok = h.nodeout_ok; conout_ok = h.conout_ok; dualout_ok = h.dualout_ok; sessionout_ok = h.sessionout_ok; certout_ok = h.certout_ok; maxit1_ok = h.maxit1_ok; maxit2_ok = h.maxit2_ok; pause1_ok = h.pause1_ok; pause2_ok = h.pause2_ok }
-with_ok p (setting.Node node.Source n) h k = record { arcdata_ok = h.arcdata_ok; nodedata_ok = h.nodedata_ok; condata_ok = h.condata_ok; certdata_ok = h.certdata_ok; conin_ok = h.conin_ok; dualin_ok = h.dualin_ok; sessiondata_ok = h.sessiondata_ok; defcost_ok = h.defcost_ok; defminflow_ok = h.defminflow_ok; defcapacity_ok = h.defcapacity_ok; defcontype_ok = h.defcontype_ok; source_ok = k; sink_ok = h.sink_ok; supply_ok = h.supply_ok; demand_ok = h.demand_ok; arcout_ok = h.arcout_ok; nodeout_ok = h.nodeout_ok; conout_ok = h.conout_ok; dualout_ok = h.dualout_ok; sessionout_ok = h.sessionout_ok; certout_ok = h.certout_ok; maxit1_ok = h.maxit1_ok; maxit2_ok = h.maxit2_ok; pause1_ok = h.pause1_ok; pause2_ok = h.pause2_ok }
-with_ok p (setting.Node node.Sink n) h k = record { arcdata_ok = h.arcdata_ok; nodedata_ok = h.nodedata_ok; condata_ok = h.condata_ok; certdata_ok = h.certdata_ok; conin_ok = h.conin_ok; dualin_ok = h.dualin_ok; sessiondata_ok = h.sessiondata_ok; defcost_ok = h.defcost_ok; defminflow_ok = h.defminflow_ok; defcapacity_ok = h.defcapacity_ok; defcontype_ok = h.defcontype_ok; source_ok = h.source_ok; sink_ok = k; supply_ok = h.supply_ok; demand_ok = h.demand_ok; arcout_ok = h.arcout_ok; nodeout_ok = h.nodeout_ok; conout_ok = h.conout_ok; dualout_ok = h.dualout_ok; sessionout_ok = h.sessionout_ok; certout_ok = h.certout_ok; maxit1_ok = h.maxit1_ok; maxit2_ok = h.maxit2_ok; pause1_ok = h.pause1_ok; pause2_ok = h.pause2_ok }
-with_ok p (setting.Output out.Arcout n) h k = record { arcdata_ok = h.arcdata_ok; nodedata_ok = h.nodedata_ok; condata_ok = h.condata_ok; certdata_ok = h.certdata_ok; conin_ok = h.conin_ok; dualin_ok = h.dualin_ok; sessiondata_ok = h.sessiondata_ok; defcost_ok = h.defcost_ok; defminflow_ok = h.defminflow_ok; defcapacity_ok = h.defcapacity_ok; defcontype_ok = h.defcontype_ok; source_ok = h.source_ok; sink_ok = h.sink_ok; supply_ok = h.supply_ok; demand_ok = h.demand_ok; arcout_ok = k; nodeout_ok = h.nodeout_ok; conout_ok = h.conout_ok; dualout_ok = h.dualout_ok; sessionout_ok = h.sessionout_ok; certout_ok = h.certout_ok; maxit1_ok = h.maxit1_ok; maxit2_ok = h.maxit2_ok; pause1_ok = h.pause1_ok; pause2_ok = h.pause2_ok }
-with_ok p (setting.Output out.Nodeout n) h k = record { arcdata_ok = h.arcdata_ok; nodedata_ok = h.nodedata_ok; condata_ok = h.condata_ok; certdata_ok = h.certdata_ok; conin_ok = h.conin_ok; dualin_ok = h.dualin_ok; sessiondata_ok = h.sessiondata_ok; defcost_ok = h.defcost_ok; defminflow_ok = h.defminflow_ok; defcapacity_ok = h.defcapacity_ok; defcontype_ok = h.defcontype_ok; source_ok = h.source_ok; sink_ok = h.sink_ok; supply_ok = h.supply_ok; demand_ok = h.demand_ok; arcout_ok = h.arcout_ok; nodeout_ok = k; conout_ok = h.conout_ok; dualout_ok = h.dualout_ok; sessionout_ok = h.sessionout_ok; certout_ok = h.certout_ok; maxit1_ok = h.maxit1_ok; maxit2_ok = h.maxit2_ok; pause1_ok = h.pause1_ok; pause2_ok = h.pause2_ok }
-with_ok p (setting.Output out.Conout n) h k = record { arcdata_ok = h.arcdata_ok; nodedata_ok = h.nodedata_ok; condata_ok = h.condata_ok; certdata_ok = h.certdata_ok; conin_ok = h.conin_ok; dualin_ok = h.dualin_ok; sessiondata_ok = h.sessiondata_ok; defcost_ok = h.defcost_ok; defminflow_ok = h.defminflow_ok; defcapacity_ok = h.defcapacity_ok; defcontype_ok = h.defcontype_ok; source_ok = h.source_ok; sink_ok = h.sink_ok; supply_ok = h.supply_ok; demand_ok = h.demand_ok; arcout_ok = h.arcout_ok; nodeout_ok = h.nodeout_ok; conout_ok = k; dualout_ok = h.dualout_ok; sessionout_ok = h.sessionout_ok; certout_ok = h.certout_ok; maxit1_ok = h.maxit1_ok; maxit2_ok = h.maxit2_ok; pause1_ok = h.pause1_ok; pause2_ok = h.pause2_ok }
-with_ok p (setting.Output out.Dualout n) h k = record { arcdata_ok = h.arcdata_ok; nodedata_ok = h.nodedata_ok; condata_ok = h.condata_ok; certdata_ok = h.certdata_ok; conin_ok = h.conin_ok; dualin_ok = h.dualin_ok; sessiondata_ok = h.sessiondata_ok; defcost_ok = h.defcost_ok; defminflow_ok = h.defminflow_ok; defcapacity_ok = h.defcapacity_ok; defcontype_ok = h.defcontype_ok; source_ok = h.source_ok; sink_ok = h.sink_ok; supply_ok = h.supply_ok; demand_ok = h.demand_ok; arcout_ok = h.arcout_ok; nodeout_ok = h.nodeout_ok; conout_ok = h.conout_ok; dualout_ok = k; sessionout_ok = h.sessionout_ok; certout_ok = h.certout_ok; maxit1_ok = h.maxit1_ok; maxit2_ok = h.maxit2_ok; pause1_ok = h.pause1_ok; pause2_ok = h.pause2_ok }
-with_ok p (setting.Output out.Sessionout n) h k = record { arcdata_ok = h.arcdata_ok; nodedata_ok = h.nodedata_ok; condata_ok = h.condata_ok; certdata_ok = h.certdata_ok; conin_ok = h.conin_ok; dualin_ok = h.dualin_ok; sessiondata_ok = h.sessiondata_ok; defcost_ok = h.defcost_ok; defminflow_ok = h.defminflow_ok; defcapacity_ok = h.defcapacity_ok; defcontype_ok = h.defcontype_ok; source_ok = h.source_ok; sink_ok = h.sink_ok; supply_ok = h.supply_ok; demand_ok = h.demand_ok; arcout_ok = h.arcout_ok; nodeout_ok = h.nodeout_ok; conout_ok = h.conout_ok; dualout_ok = h.dualout_ok; sessionout_ok = k; certout_ok = h.certout_ok; maxit1_ok = h.maxit1_ok; maxit2_ok = h.maxit2_ok; pause1_ok = h.pause1_ok; pause2_ok = h.pause2_ok }
-with_ok p (setting.Output out.Certout n) h k = record { arcdata_ok = h.arcdata_ok; nodedata_ok = h.nodedata_ok; condata_ok = h.condata_ok; certdata_ok = h.certdata_ok; conin_ok = h.conin_ok; dualin_ok = h.dualin_ok; sessiondata_ok = h.sessiondata_ok; defcost_ok = h.defcost_ok; defminflow_ok = h.defminflow_ok; defcapacity_ok = h.defcapacity_ok; defcontype_ok = h.defcontype_ok; source_ok = h.source_ok; sink_ok = h.sink_ok; supply_ok = h.supply_ok; demand_ok = h.demand_ok; arcout_ok = h.arcout_ok; nodeout_ok = h.nodeout_ok; conout_ok = h.conout_ok; dualout_ok = h.dualout_ok; sessionout_ok = h.sessionout_ok; certout_ok = k; maxit1_ok = h.maxit1_ok; maxit2_ok = h.maxit2_ok; pause1_ok = h.pause1_ok; pause2_ok = h.pause2_ok }
-with_ok p (setting.Count count.Maxit1 n) h k = record { arcdata_ok = h.arcdata_ok; nodedata_ok = h.nodedata_ok; condata_ok = h.condata_ok; certdata_ok = h.certdata_ok; conin_ok = h.conin_ok; dualin_ok = h.dualin_ok; sessiondata_ok = h.sessiondata_ok; defcost_ok = h.defcost_ok; defminflow_ok = h.defminflow_ok; defcapacity_ok = h.defcapacity_ok; defcontype_ok = h.defcontype_ok; source_ok = h.source_ok; sink_ok = h.sink_ok; supply_ok = h.supply_ok; demand_ok = h.demand_ok; arcout_ok = h.arcout_ok; nodeout_ok = h.nodeout_ok; conout_ok = h.conout_ok; dualout_ok = h.dualout_ok; sessionout_ok = h.sessionout_ok; certout_ok = h.certout_ok; maxit1_ok = k; maxit2_ok = h.maxit2_ok; pause1_ok = h.pause1_ok; pause2_ok = h.pause2_ok }
-with_ok p (setting.Count count.Maxit2 n) h k = record { arcdata_ok = h.arcdata_ok; nodedata_ok = h.nodedata_ok; condata_ok = h.condata_ok; certdata_ok = h.certdata_ok; conin_ok = h.conin_ok; dualin_ok = h.dualin_ok; sessiondata_ok = h.sessiondata_ok; defcost_ok = h.defcost_ok; defminflow_ok = h.defminflow_ok; defcapacity_ok = h.defcapacity_ok; defcontype_ok = h.defcontype_ok; source_ok = h.source_ok; sink_ok = h.sink_ok; supply_ok = h.supply_ok; demand_ok = h.demand_ok; arcout_ok = h.arcout_ok; nodeout_ok = h.nodeout_ok; conout_ok = h.conout_ok; dualout_ok = h.dualout_ok; sessionout_ok = h.sessionout_ok; certout_ok = h.certout_ok; maxit1_ok = h.maxit1_ok; maxit2_ok = k; pause1_ok = h.pause1_ok; pause2_ok = h.pause2_ok }
-with_ok p (setting.Count count.Pause1 n) h k = record { arcdata_ok = h.arcdata_ok; nodedata_ok = h.nodedata_ok; condata_ok = h.condata_ok; certdata_ok = h.certdata_ok; conin_ok = h.conin_ok; dualin_ok = h.dualin_ok; sessiondata_ok = h.sessiondata_ok; defcost_ok = h.defcost_ok; defminflow_ok = h.defminflow_ok; defcapacity_ok = h.defcapacity_ok; defcontype_ok = h.defcontype_ok; source_ok = h.source_ok; sink_ok = h.sink_ok; supply_ok = h.supply_ok; demand_ok = h.demand_ok; arcout_ok = h.arcout_ok; nodeout_ok = h.nodeout_ok; conout_ok = h.conout_ok; dualout_ok = h.dualout_ok; sessionout_ok = h.sessionout_ok; certout_ok = h.certout_ok; maxit1_ok = h.maxit1_ok; maxit2_ok = h.maxit2_ok; pause1_ok = k; pause2_ok = h.pause2_ok }
-with_ok p (setting.Count count.Pause2 n) h k = record { arcdata_ok = h.arcdata_ok; nodedata_ok = h.nodedata_ok; condata_ok = h.condata_ok; certdata_ok = h.certdata_ok; conin_ok = h.conin_ok; dualin_ok = h.dualin_ok; sessiondata_ok = h.sessiondata_ok; defcost_ok = h.defcost_ok; defminflow_ok = h.defminflow_ok; defcapacity_ok = h.defcapacity_ok; defcontype_ok = h.defcontype_ok; source_ok = h.source_ok; sink_ok = h.sink_ok; supply_ok = h.supply_ok; demand_ok = h.demand_ok; arcout_ok = h.arcout_ok; nodeout_ok = h.nodeout_ok; conout_ok = h.conout_ok; dualout_ok = h.dualout_ok; sessionout_ok = h.sessionout_ok; certout_ok = h.certout_ok; maxit1_ok = h.maxit1_ok; maxit2_ok = h.maxit2_ok; pause1_ok = h.pause1_ok; pause2_ok = k }
-with_ok p (setting.Switch switch.FeasiblePause1 b) h k = record { arcdata_ok = h.arcdata_ok; nodedata_ok = h.nodedata_ok; condata_ok = h.condata_ok; certdata_ok = h.certdata_ok; conin_ok = h.conin_ok; dualin_ok = h.dualin_ok; sessiondata_ok = h.sessiondata_ok; defcost_ok = h.defcost_ok; defminflow_ok = h.defminflow_ok; defcapacity_ok = h.defcapacity_ok; defcontype_ok = h.defcontype_ok; source_ok = h.source_ok; sink_ok = h.sink_ok; supply_ok = h.supply_ok; demand_ok = h.demand_ok; arcout_ok = h.arcout_ok; nodeout_ok = h.nodeout_ok; conout_ok = h.conout_ok; dualout_ok = h.dualout_ok; sessionout_ok = h.sessionout_ok; certout_ok = h.certout_ok; maxit1_ok = h.maxit1_ok; maxit2_ok = h.maxit2_ok; pause1_ok = h.pause1_ok; pause2_ok = h.pause2_ok }
-with_ok p (setting.Switch switch.FeasiblePause2 b) h k = record { arcdata_ok = h.arcdata_ok; nodedata_ok = h.nodedata_ok; condata_ok = h.condata_ok; certdata_ok = h.certdata_ok; conin_ok = h.conin_ok; dualin_ok = h.dualin_ok; sessiondata_ok = h.sessiondata_ok; defcost_ok = h.defcost_ok; defminflow_ok = h.defminflow_ok; defcapacity_ok = h.defcapacity_ok; defcontype_ok = h.defcontype_ok; source_ok = h.source_ok; sink_ok = h.sink_ok; supply_ok = h.supply_ok; demand_ok = h.demand_ok; arcout_ok = h.arcout_ok; nodeout_ok = h.nodeout_ok; conout_ok = h.conout_ok; dualout_ok = h.dualout_ok; sessionout_ok = h.sessionout_ok; certout_ok = h.certout_ok; maxit1_ok = h.maxit1_ok; maxit2_ok = h.maxit2_ok; pause1_ok = h.pause1_ok; pause2_ok = h.pause2_ok }
-with_ok p (setting.Switch switch.EndPause1 b) h k = record { arcdata_ok = h.arcdata_ok; nodedata_ok = h.nodedata_ok; condata_ok = h.condata_ok; certdata_ok = h.certdata_ok; conin_ok = h.conin_ok; dualin_ok = h.dualin_ok; sessiondata_ok = h.sessiondata_ok; defcost_ok = h.defcost_ok; defminflow_ok = h.defminflow_ok; defcapacity_ok = h.defcapacity_ok; defcontype_ok = h.defcontype_ok; source_ok = h.source_ok; sink_ok = h.sink_ok; supply_ok = h.supply_ok; demand_ok = h.demand_ok; arcout_ok = h.arcout_ok; nodeout_ok = h.nodeout_ok; conout_ok = h.conout_ok; dualout_ok = h.dualout_ok; sessionout_ok = h.sessionout_ok; certout_ok = h.certout_ok; maxit1_ok = h.maxit1_ok; maxit2_ok = h.maxit2_ok; pause1_ok = h.pause1_ok; pause2_ok = h.pause2_ok }
-with_ok p (setting.Switch switch.Future1 b) h k = record { arcdata_ok = h.arcdata_ok; nodedata_ok = h.nodedata_ok; condata_ok = h.condata_ok; certdata_ok = h.certdata_ok; conin_ok = h.conin_ok; dualin_ok = h.dualin_ok; sessiondata_ok = h.sessiondata_ok; defcost_ok = h.defcost_ok; defminflow_ok = h.defminflow_ok; defcapacity_ok = h.defcapacity_ok; defcontype_ok = h.defcontype_ok; source_ok = h.source_ok; sink_ok = h.sink_ok; supply_ok = h.supply_ok; demand_ok = h.demand_ok; arcout_ok = h.arcout_ok; nodeout_ok = h.nodeout_ok; conout_ok = h.conout_ok; dualout_ok = h.dualout_ok; sessionout_ok = h.sessionout_ok; certout_ok = h.certout_ok; maxit1_ok = h.maxit1_ok; maxit2_ok = h.maxit2_ok; pause1_ok = h.pause1_ok; pause2_ok = h.pause2_ok }
-with_ok p (setting.Switch switch.Future2 b) h k = record { arcdata_ok = h.arcdata_ok; nodedata_ok = h.nodedata_ok; condata_ok = h.condata_ok; certdata_ok = h.certdata_ok; conin_ok = h.conin_ok; dualin_ok = h.dualin_ok; sessiondata_ok = h.sessiondata_ok; defcost_ok = h.defcost_ok; defminflow_ok = h.defminflow_ok; defcapacity_ok = h.defcapacity_ok; defcontype_ok = h.defcontype_ok; source_ok = h.source_ok; sink_ok = h.sink_ok; supply_ok = h.supply_ok; demand_ok = h.demand_ok; arcout_ok = h.arcout_ok; nodeout_ok = h.nodeout_ok; conout_ok = h.conout_ok; dualout_ok = h.dualout_ok; sessionout_ok = h.sessionout_ok; certout_ok = h.certout_ok; maxit1_ok = h.maxit1_ok; maxit2_ok = h.maxit2_ok; pause1_ok = h.pause1_ok; pause2_ok = h.pause2_ok }
-with_ok p (setting.Rule rule.PriceType1 r) h k = record { arcdata_ok = h.arcdata_ok; nodedata_ok = h.nodedata_ok; condata_ok = h.condata_ok; certdata_ok = h.certdata_ok; conin_ok = h.conin_ok; dualin_ok = h.dualin_ok; sessiondata_ok = h.sessiondata_ok; defcost_ok = h.defcost_ok; defminflow_ok = h.defminflow_ok; defcapacity_ok = h.defcapacity_ok; defcontype_ok = h.defcontype_ok; source_ok = h.source_ok; sink_ok = h.sink_ok; supply_ok = h.supply_ok; demand_ok = h.demand_ok; arcout_ok = h.arcout_ok; nodeout_ok = h.nodeout_ok; conout_ok = h.conout_ok; dualout_ok = h.dualout_ok; sessionout_ok = h.sessionout_ok; certout_ok = h.certout_ok; maxit1_ok = h.maxit1_ok; maxit2_ok = h.maxit2_ok; pause1_ok = h.pause1_ok; pause2_ok = h.pause2_ok }
-with_ok p (setting.Rule rule.PriceType2 r) h k = record { arcdata_ok = h.arcdata_ok; nodedata_ok = h.nodedata_ok; condata_ok = h.condata_ok; certdata_ok = h.certdata_ok; conin_ok = h.conin_ok; dualin_ok = h.dualin_ok; sessiondata_ok = h.sessiondata_ok; defcost_ok = h.defcost_ok; defminflow_ok = h.defminflow_ok; defcapacity_ok = h.defcapacity_ok; defcontype_ok = h.defcontype_ok; source_ok = h.source_ok; sink_ok = h.sink_ok; supply_ok = h.supply_ok; demand_ok = h.demand_ok; arcout_ok = h.arcout_ok; nodeout_ok = h.nodeout_ok; conout_ok = h.conout_ok; dualout_ok = h.dualout_ok; sessionout_ok = h.sessionout_ok; certout_ok = h.certout_ok; maxit1_ok = h.maxit1_ok; maxit2_ok = h.maxit2_ok; pause1_ok = h.pause1_ok; pause2_ok = h.pause2_ok }
+with_ok p (setting.Input input.Arcdata n) h k = record { arcdata_ok = k; nodedata_ok = h.nodedata_ok; condata_ok = h.condata_ok; certdata_ok = h.certdata_ok; conin_ok = h.conin_ok; dualin_ok = h.dualin_ok; sessiondata_ok = h.sessiondata_ok; defcost_ok = h.defcost_ok; defminflow_ok = h.defminflow_ok; defcapacity_ok = h.defcapacity_ok; defcontype_ok = h.defcontype_ok; source_ok = h.source_ok; sink_ok = h.sink_ok; supply_ok = h.supply_ok; demand_ok = h.demand_ok; arcout_ok = h.arcout_ok; nodeout_ok = h.nodeout_ok; conout_ok = h.conout_ok; dualout_ok = h.dualout_ok; sessionout_ok = h.sessionout_ok; certout_ok = h.certout_ok; maxit1_ok = h.maxit1_ok; maxit2_ok = h.maxit2_ok; pause1_ok = h.pause1_ok; pause2_ok = h.pause2_ok; queuesize1_ok = h.queuesize1_ok; queuesize2_ok = h.queuesize2_ok }
+with_ok p (setting.Input input.Nodedata n) h k = record { arcdata_ok = h.arcdata_ok; nodedata_ok = k; condata_ok = h.condata_ok; certdata_ok = h.certdata_ok; conin_ok = h.conin_ok; dualin_ok = h.dualin_ok; sessiondata_ok = h.sessiondata_ok; defcost_ok = h.defcost_ok; defminflow_ok = h.defminflow_ok; defcapacity_ok = h.defcapacity_ok; defcontype_ok = h.defcontype_ok; source_ok = h.source_ok; sink_ok = h.sink_ok; supply_ok = h.supply_ok; demand_ok = h.demand_ok; arcout_ok = h.arcout_ok; nodeout_ok = h.nodeout_ok; conout_ok = h.conout_ok; dualout_ok = h.dualout_ok; sessionout_ok = h.sessionout_ok; certout_ok = h.certout_ok; maxit1_ok = h.maxit1_ok; maxit2_ok = h.maxit2_ok; pause1_ok = h.pause1_ok; pause2_ok = h.pause2_ok; queuesize1_ok = h.queuesize1_ok; queuesize2_ok = h.queuesize2_ok }
+with_ok p (setting.Input input.Condata n) h k = record { arcdata_ok = h.arcdata_ok; nodedata_ok = h.nodedata_ok; condata_ok = k; certdata_ok = h.certdata_ok; conin_ok = h.conin_ok; dualin_ok = h.dualin_ok; sessiondata_ok = h.sessiondata_ok; defcost_ok = h.defcost_ok; defminflow_ok = h.defminflow_ok; defcapacity_ok = h.defcapacity_ok; defcontype_ok = h.defcontype_ok; source_ok = h.source_ok; sink_ok = h.sink_ok; supply_ok = h.supply_ok; demand_ok = h.demand_ok; arcout_ok = h.arcout_ok; nodeout_ok = h.nodeout_ok; conout_ok = h.conout_ok; dualout_ok = h.dualout_ok; sessionout_ok = h.sessionout_ok; certout_ok = h.certout_ok; maxit1_ok = h.maxit1_ok; maxit2_ok = h.maxit2_ok; pause1_ok = h.pause1_ok; pause2_ok = h.pause2_ok; queuesize1_ok = h.queuesize1_ok; queuesize2_ok = h.queuesize2_ok }
+with_ok p (setting.Input input.Certdata n) h k = record { arcdata_ok = h.arcdata_ok; nodedata_ok = h.nodedata_ok; condata_ok = h.condata_ok; certdata_ok = k; conin_ok = h.conin_ok; dualin_ok = h.dualin_ok; sessiondata_ok = h.sessiondata_ok; defcost_ok = h.defcost_ok; defminflow_ok = h.defminflow_ok; defcapacity_ok = h.defcapacity_ok; defcontype_ok = h.defcontype_ok; source_ok = h.source_ok; sink_ok = h.sink_ok; supply_ok = h.supply_ok; demand_ok = h.demand_ok; arcout_ok = h.arcout_ok; nodeout_ok = h.nodeout_ok; conout_ok = h.conout_ok; dualout_ok = h.dualout_ok; sessionout_ok = h.sessionout_ok; certout_ok = h.certout_ok; maxit1_ok = h.maxit1_ok; maxit2_ok = h.maxit2_ok; pause1_ok = h.pause1_ok; pause2_ok = h.pause2_ok; queuesize1_ok = h.queuesize1_ok; queuesize2_ok = h.queuesize2_ok }
+with_ok p (setting.Input input.Conin n) h k = record { arcdata_ok = h.arcdata_ok; nodedata_ok = h.nodedata_ok; condata_ok = h.condata_ok; certdata_ok = h.certdata_ok; conin_ok = k; dualin_ok = h.dualin_ok; sessiondata_ok = h.sessiondata_ok; defcost_ok = h.defcost_ok; defminflow_ok = h.defminflow_ok; defcapacity_ok = h.defcapacity_ok; defcontype_ok = h.defcontype_ok; source_ok = h.source_ok; sink_ok = h.sink_ok; supply_ok = h.supply_ok; demand_ok = h.demand_ok; arcout_ok = h.arcout_ok; nodeout_ok = h.nodeout_ok; conout_ok = h.conout_ok; dualout_ok = h.dualout_ok; sessionout_ok = h.sessionout_ok; certout_ok = h.certout_ok; maxit1_ok = h.maxit1_ok; maxit2_ok = h.maxit2_ok; pause1_ok = h.pause1_ok; pause2_ok = h.pause2_ok; queuesize1_ok = h.queuesize1_ok; queuesize2_ok = h.queuesize2_ok }
+with_ok p (setting.Input input.Dualin n) h k = record { arcdata_ok = h.arcdata_ok; nodedata_ok = h.nodedata_ok; condata_ok = h.condata_ok; certdata_ok = h.certdata_ok; conin_ok = h.conin_ok; dualin_ok = k; sessiondata_ok = h.sessiondata_ok; defcost_ok = h.defcost_ok; defminflow_ok = h.defminflow_ok; defcapacity_ok = h.defcapacity_ok; defcontype_ok = h.defcontype_ok; source_ok = h.source_ok; sink_ok = h.sink_ok; supply_ok = h.supply_ok; demand_ok = h.demand_ok; arcout_ok = h.arcout_ok; nodeout_ok = h.nodeout_ok; conout_ok = h.conout_ok; dualout_ok = h.dualout_ok; sessionout_ok = h.sessionout_ok; certout_ok = h.certout_ok; maxit1_ok = h.maxit1_ok; maxit2_ok = h.maxit2_ok; pause1_ok = h.pause1_ok; pause2_ok = h.pause2_ok; queuesize1_ok = h.queuesize1_ok; queuesize2_ok = h.queuesize2_ok }
+with_ok p (setting.Input input.Sessiondata n) h k = record { arcdata_ok = h.arcdata_ok; nodedata_ok = h.nodedata_ok; condata_ok = h.condata_ok; certdata_ok = h.certdata_ok; conin_ok = h.conin_ok; dualin_ok = h.dualin_ok; sessiondata_ok = k; defcost_ok = h.defcost_ok; defminflow_ok = h.defminflow_ok; defcapacity_ok = h.defcapacity_ok; defcontype_ok = h.defcontype_ok; source_ok = h.source_ok; sink_ok = h.sink_ok; supply_ok = h.supply_ok; demand_ok = h.demand_ok; arcout_ok = h.arcout_ok; nodeout_ok = h.nodeout_ok; conout_ok = h.conout_ok; dualout_ok = h.dualout_ok; sessionout_ok = h.sessionout_ok; certout_ok = h.certout_ok; maxit1_ok = h.maxit1_ok; maxit2_ok = h.maxit2_ok; pause1_ok = h.pause1_ok; pause2_ok = h.pause2_ok; queuesize1_ok = h.queuesize1_ok; queuesize2_ok = h.queuesize2_ok }
+with_ok p (setting.Flag flag.SparseConData) h k = record { arcdata_ok = h.arcdata_ok; nodedata_ok = h.nodedata_ok; condata_ok = h.condata_ok; certdata_ok = h.certdata_ok; conin_ok = h.conin_ok; dualin_ok = h.dualin_ok; sessiondata_ok = h.sessiondata_ok; defcost_ok = h.defcost_ok; defminflow_ok = h.defminflow_ok; defcapacity_ok = h.defcapacity_ok; defcontype_ok = h.defcontype_ok; source_ok = h.source_ok; sink_ok = h.sink_ok; supply_ok = h.supply_ok; demand_ok = h.demand_ok; arcout_ok = h.arcout_ok; nodeout_ok = h.nodeout_ok; conout_ok = h.conout_ok; dualout_ok = h.dualout_ok; sessionout_ok = h.sessionout_ok; certout_ok = h.certout_ok; maxit1_ok = h.maxit1_ok; maxit2_ok = h.maxit2_ok; pause1_ok = h.pause1_ok; pause2_ok = h.pause2_ok; queuesize1_ok = h.queuesize1_ok; queuesize2_ok = h.queuesize2_ok }
+with_ok p (setting.Flag flag.Thrunet) h k = record { arcdata_ok = h.arcdata_ok; nodedata_ok = h.nodedata_ok; condata_ok = h.condata_ok; certdata_ok = h.certdata_ok; conin_ok = h.conin_ok; dualin_ok = h.dualin_ok; sessiondata_ok = h.sessiondata_ok; defcost_ok = h.defcost_ok; defminflow_ok = h.defminflow_ok; defcapacity_ok = h.defcapacity_ok; defcontype_ok = h.defcontype_ok; source_ok = h.source_ok; sink_ok = h.sink_ok; supply_ok = h.supply_ok; demand_ok = h.demand_ok; arcout_ok = h.arcout_ok; nodeout_ok = h.nodeout_ok; conout_ok = h.conout_ok; dualout_ok = h.dualout_ok; sessionout_ok = h.sessionout_ok; certout_ok = h.certout_ok; maxit1_ok = h.maxit1_ok; maxit2_ok = h.maxit2_ok; pause1_ok = h.pause1_ok; pause2_ok = h.pause2_ok; queuesize1_ok = h.queuesize1_ok; queuesize2_ok = h.queuesize2_ok }
+with_ok p (setting.Flag flag.Maximize) h k = record { arcdata_ok = h.arcdata_ok; nodedata_ok = h.nodedata_ok; condata_ok = h.condata_ok; certdata_ok = h.certdata_ok; conin_ok = h.conin_ok; dualin_ok = h.dualin_ok; sessiondata_ok = h.sessiondata_ok; defcost_ok = h.defcost_ok; defminflow_ok = h.defminflow_ok; defcapacity_ok = h.defcapacity_ok; defcontype_ok = h.defcontype_ok; source_ok = h.source_ok; sink_ok = h.sink_ok; supply_ok = h.supply_ok; demand_ok = h.demand_ok; arcout_ok = h.arcout_ok; nodeout_ok = h.nodeout_ok; conout_ok = h.conout_ok; dualout_ok = h.dualout_ok; sessionout_ok = h.sessionout_ok; certout_ok = h.certout_ok; maxit1_ok = h.maxit1_ok; maxit2_ok = h.maxit2_ok; pause1_ok = h.pause1_ok; pause2_ok = h.pause2_ok; queuesize1_ok = h.queuesize1_ok; queuesize2_ok = h.queuesize2_ok }
+with_ok p (setting.Flag flag.Warm) h k = record { arcdata_ok = h.arcdata_ok; nodedata_ok = h.nodedata_ok; condata_ok = h.condata_ok; certdata_ok = h.certdata_ok; conin_ok = h.conin_ok; dualin_ok = h.dualin_ok; sessiondata_ok = h.sessiondata_ok; defcost_ok = h.defcost_ok; defminflow_ok = h.defminflow_ok; defcapacity_ok = h.defcapacity_ok; defcontype_ok = h.defcontype_ok; source_ok = h.source_ok; sink_ok = h.sink_ok; supply_ok = h.supply_ok; demand_ok = h.demand_ok; arcout_ok = h.arcout_ok; nodeout_ok = h.nodeout_ok; conout_ok = h.conout_ok; dualout_ok = h.dualout_ok; sessionout_ok = h.sessionout_ok; certout_ok = h.certout_ok; maxit1_ok = h.maxit1_ok; maxit2_ok = h.maxit2_ok; pause1_ok = h.pause1_ok; pause2_ok = h.pause2_ok; queuesize1_ok = h.queuesize1_ok; queuesize2_ok = h.queuesize2_ok }
+with_ok p (setting.Flag flag.MaxFlow) h k = record { arcdata_ok = h.arcdata_ok; nodedata_ok = h.nodedata_ok; condata_ok = h.condata_ok; certdata_ok = h.certdata_ok; conin_ok = h.conin_ok; dualin_ok = h.dualin_ok; sessiondata_ok = h.sessiondata_ok; defcost_ok = h.defcost_ok; defminflow_ok = h.defminflow_ok; defcapacity_ok = h.defcapacity_ok; defcontype_ok = h.defcontype_ok; source_ok = h.source_ok; sink_ok = h.sink_ok; supply_ok = h.supply_ok; demand_ok = h.demand_ok; arcout_ok = h.arcout_ok; nodeout_ok = h.nodeout_ok; conout_ok = h.conout_ok; dualout_ok = h.dualout_ok; sessionout_ok = h.sessionout_ok; certout_ok = h.certout_ok; maxit1_ok = h.maxit1_ok; maxit2_ok = h.maxit2_ok; pause1_ok = h.pause1_ok; pause2_ok = h.pause2_ok; queuesize1_ok = h.queuesize1_ok; queuesize2_ok = h.queuesize2_ok }
+with_ok p (setting.Flag flag.ShortPath) h k = record { arcdata_ok = h.arcdata_ok; nodedata_ok = h.nodedata_ok; condata_ok = h.condata_ok; certdata_ok = h.certdata_ok; conin_ok = h.conin_ok; dualin_ok = h.dualin_ok; sessiondata_ok = h.sessiondata_ok; defcost_ok = h.defcost_ok; defminflow_ok = h.defminflow_ok; defcapacity_ok = h.defcapacity_ok; defcontype_ok = h.defcontype_ok; source_ok = h.source_ok; sink_ok = h.sink_ok; supply_ok = h.supply_ok; demand_ok = h.demand_ok; arcout_ok = h.arcout_ok; nodeout_ok = h.nodeout_ok; conout_ok = h.conout_ok; dualout_ok = h.dualout_ok; sessionout_ok = h.sessionout_ok; certout_ok = h.certout_ok; maxit1_ok = h.maxit1_ok; maxit2_ok = h.maxit2_ok; pause1_ok = h.pause1_ok; pause2_ok = h.pause2_ok; queuesize1_ok = h.queuesize1_ok; queuesize2_ok = h.queuesize2_ok }
+with_ok p (setting.Amount amount.DefCost a) h k = record { arcdata_ok = h.arcdata_ok; nodedata_ok = h.nodedata_ok; condata_ok = h.condata_ok; certdata_ok = h.certdata_ok; conin_ok = h.conin_ok; dualin_ok = h.dualin_ok; sessiondata_ok = h.sessiondata_ok; defcost_ok = k; defminflow_ok = h.defminflow_ok; defcapacity_ok = h.defcapacity_ok; defcontype_ok = h.defcontype_ok; source_ok = h.source_ok; sink_ok = h.sink_ok; supply_ok = h.supply_ok; demand_ok = h.demand_ok; arcout_ok = h.arcout_ok; nodeout_ok = h.nodeout_ok; conout_ok = h.conout_ok; dualout_ok = h.dualout_ok; sessionout_ok = h.sessionout_ok; certout_ok = h.certout_ok; maxit1_ok = h.maxit1_ok; maxit2_ok = h.maxit2_ok; pause1_ok = h.pause1_ok; pause2_ok = h.pause2_ok; queuesize1_ok = h.queuesize1_ok; queuesize2_ok = h.queuesize2_ok }
+with_ok p (setting.Amount amount.DefMinFlow a) h k = record { arcdata_ok = h.arcdata_ok; nodedata_ok = h.nodedata_ok; condata_ok = h.condata_ok; certdata_ok = h.certdata_ok; conin_ok = h.conin_ok; dualin_ok = h.dualin_ok; sessiondata_ok = h.sessiondata_ok; defcost_ok = h.defcost_ok; defminflow_ok = k; defcapacity_ok = h.defcapacity_ok; defcontype_ok = h.defcontype_ok; source_ok = h.source_ok; sink_ok = h.sink_ok; supply_ok = h.supply_ok; demand_ok = h.demand_ok; arcout_ok = h.arcout_ok; nodeout_ok = h.nodeout_ok; conout_ok = h.conout_ok; dualout_ok = h.dualout_ok; sessionout_ok = h.sessionout_ok; certout_ok = h.certout_ok; maxit1_ok = h.maxit1_ok; maxit2_ok = h.maxit2_ok; pause1_ok = h.pause1_ok; pause2_ok = h.pause2_ok; queuesize1_ok = h.queuesize1_ok; queuesize2_ok = h.queuesize2_ok }
+with_ok p (setting.Amount amount.Supply a) h k = record { arcdata_ok = h.arcdata_ok; nodedata_ok = h.nodedata_ok; condata_ok = h.condata_ok; certdata_ok = h.certdata_ok; conin_ok = h.conin_ok; dualin_ok = h.dualin_ok; sessiondata_ok = h.sessiondata_ok; defcost_ok = h.defcost_ok; defminflow_ok = h.defminflow_ok; defcapacity_ok = h.defcapacity_ok; defcontype_ok = h.defcontype_ok; source_ok = h.source_ok; sink_ok = h.sink_ok; supply_ok = k; demand_ok = h.demand_ok; arcout_ok = h.arcout_ok; nodeout_ok = h.nodeout_ok; conout_ok = h.conout_ok; dualout_ok = h.dualout_ok; sessionout_ok = h.sessionout_ok; certout_ok = h.certout_ok; maxit1_ok = h.maxit1_ok; maxit2_ok = h.maxit2_ok; pause1_ok = h.pause1_ok; pause2_ok = h.pause2_ok; queuesize1_ok = h.queuesize1_ok; queuesize2_ok = h.queuesize2_ok }
+with_ok p (setting.Amount amount.Demand a) h k = record { arcdata_ok = h.arcdata_ok; nodedata_ok = h.nodedata_ok; condata_ok = h.condata_ok; certdata_ok = h.certdata_ok; conin_ok = h.conin_ok; dualin_ok = h.dualin_ok; sessiondata_ok = h.sessiondata_ok; defcost_ok = h.defcost_ok; defminflow_ok = h.defminflow_ok; defcapacity_ok = h.defcapacity_ok; defcontype_ok = h.defcontype_ok; source_ok = h.source_ok; sink_ok = h.sink_ok; supply_ok = h.supply_ok; demand_ok = k; arcout_ok = h.arcout_ok; nodeout_ok = h.nodeout_ok; conout_ok = h.conout_ok; dualout_ok = h.dualout_ok; sessionout_ok = h.sessionout_ok; certout_ok = h.certout_ok; maxit1_ok = h.maxit1_ok; maxit2_ok = h.maxit2_ok; pause1_ok = h.pause1_ok; pause2_ok = h.pause2_ok; queuesize1_ok = h.queuesize1_ok; queuesize2_ok = h.queuesize2_ok }
+with_ok p (setting.DefCapacity b) h k = record { arcdata_ok = h.arcdata_ok; nodedata_ok = h.nodedata_ok; condata_ok = h.condata_ok; certdata_ok = h.certdata_ok; conin_ok = h.conin_ok; dualin_ok = h.dualin_ok; sessiondata_ok = h.sessiondata_ok; defcost_ok = h.defcost_ok; defminflow_ok = h.defminflow_ok; defcapacity_ok = k; defcontype_ok = h.defcontype_ok; source_ok = h.source_ok; sink_ok = h.sink_ok; supply_ok = h.supply_ok; demand_ok = h.demand_ok; arcout_ok = h.arcout_ok; nodeout_ok = h.nodeout_ok; conout_ok = h.conout_ok; dualout_ok = h.dualout_ok; sessionout_ok = h.sessionout_ok; certout_ok = h.certout_ok; maxit1_ok = h.maxit1_ok; maxit2_ok = h.maxit2_ok; pause1_ok = h.pause1_ok; pause2_ok = h.pause2_ok; queuesize1_ok = h.queuesize1_ok; queuesize2_ok = h.queuesize2_ok }
+with_ok p (setting.DefConType t) h k = record { arcdata_ok = h.arcdata_ok; nodedata_ok = h.nodedata_ok; condata_ok = h.condata_ok; certdata_ok = h.certdata_ok; conin_ok = h.conin_ok; dualin_ok = h.dualin_ok; sessiondata_ok = h.sessiondata_ok; defcost_ok = h.defcost_ok; defminflow_ok = h.defminflow_ok; defcapacity_ok = h.defcapacity_ok; defcontype_ok = k; source_ok = h.source_ok; sink_ok = h.sink_ok; supply_ok = h.supply_ok; demand_ok = h.demand_ok; arcout_ok = h.arcout_ok; nodeout_ok = h.nodeout_ok; conout_ok = h.conout_ok; dualout_ok = h.dualout_ok; sessionout_ok = h.sessionout_ok; certout_ok = h.certout_ok; maxit1_ok = h.maxit1_ok; maxit2_ok = h.maxit2_ok; pause1_ok = h.pause1_ok; pause2_ok = h.pause2_ok; queuesize1_ok = h.queuesize1_ok; queuesize2_ok = h.queuesize2_ok }
+with_ok p (setting.Node node.Source n) h k = record { arcdata_ok = h.arcdata_ok; nodedata_ok = h.nodedata_ok; condata_ok = h.condata_ok; certdata_ok = h.certdata_ok; conin_ok = h.conin_ok; dualin_ok = h.dualin_ok; sessiondata_ok = h.sessiondata_ok; defcost_ok = h.defcost_ok; defminflow_ok = h.defminflow_ok; defcapacity_ok = h.defcapacity_ok; defcontype_ok = h.defcontype_ok; source_ok = k; sink_ok = h.sink_ok; supply_ok = h.supply_ok; demand_ok = h.demand_ok; arcout_ok = h.arcout_ok; nodeout_ok = h.nodeout_ok; conout_ok = h.conout_ok; dualout_ok = h.dualout_ok; sessionout_ok = h.sessionout_ok; certout_ok = h.certout_ok; maxit1_ok = h.maxit1_ok; maxit2_ok = h.maxit2_ok; pause1_ok = h.pause1_ok; pause2_ok = h.pause2_ok; queuesize1_ok = h.queuesize1_ok; queuesize2_ok = h.queuesize2_ok }
+with_ok p (setting.Node node.Sink n) h k = record { arcdata_ok = h.arcdata_ok; nodedata_ok = h.nodedata_ok; condata_ok = h.condata_ok; certdata_ok = h.certdata_ok; conin_ok = h.conin_ok; dualin_ok = h.dualin_ok; sessiondata_ok = h.sessiondata_ok; defcost_ok = h.defcost_ok; defminflow_ok = h.defminflow_ok; defcapacity_ok = h.defcapacity_ok; defcontype_ok = h.defcontype_ok; source_ok = h.source_ok; sink_ok = k; supply_ok = h.supply_ok; demand_ok = h.demand_ok; arcout_ok = h.arcout_ok; nodeout_ok = h.nodeout_ok; conout_ok = h.conout_ok; dualout_ok = h.dualout_ok; sessionout_ok = h.sessionout_ok; certout_ok = h.certout_ok; maxit1_ok = h.maxit1_ok; maxit2_ok = h.maxit2_ok; pause1_ok = h.pause1_ok; pause2_ok = h.pause2_ok; queuesize1_ok = h.queuesize1_ok; queuesize2_ok = h.queuesize2_ok }
+with_ok p (setting.Output out.Arcout n) h k = record { arcdata_ok = h.arcdata_ok; nodedata_ok = h.nodedata_ok; condata_ok = h.condata_ok; certdata_ok = h.certdata_ok; conin_ok = h.conin_ok; dualin_ok = h.dualin_ok; sessiondata_ok = h.sessiondata_ok; defcost_ok = h.defcost_ok; defminflow_ok = h.defminflow_ok; defcapacity_ok = h.defcapacity_ok; defcontype_ok = h.defcontype_ok; source_ok = h.source_ok; sink_ok = h.sink_ok; supply_ok = h.supply_ok; demand_ok = h.demand_ok; arcout_ok = k; nodeout_ok = h.nodeout_ok; conout_ok = h.conout_ok; dualout_ok = h.dualout_ok; sessionout_ok = h.sessionout_ok; certout_ok = h.certout_ok; maxit1_ok = h.maxit1_ok; maxit2_ok = h.maxit2_ok; pause1_ok = h.pause1_ok; pause2_ok = h.pause2_ok; queuesize1_ok = h.queuesize1_ok; queuesize2_ok = h.queuesize2_ok }
+with_ok p (setting.Output out.Nodeout n) h k = record { arcdata_ok = h.arcdata_ok; nodedata_ok = h.nodedata_ok; condata_ok = h.condata_ok; certdata_ok = h.certdata_ok; conin_ok = h.conin_ok; dualin_ok = h.dualin_ok; sessiondata_ok = h.sessiondata_ok; defcost_ok = h.defcost_ok; defminflow_ok = h.defminflow_ok; defcapacity_ok = h.defcapacity_ok; defcontype_ok = h.defcontype_ok; source_ok = h.source_ok; sink_ok = h.sink_ok; supply_ok = h.supply_ok; demand_ok = h.demand_ok; arcout_ok = h.arcout_ok; nodeout_ok = k; conout_ok = h.conout_ok; dualout_ok = h.dualout_ok; sessionout_ok = h.sessionout_ok; certout_ok = h.certout_ok; maxit1_ok = h.maxit1_ok; maxit2_ok = h.maxit2_ok; pause1_ok = h.pause1_ok; pause2_ok = h.pause2_ok; queuesize1_ok = h.queuesize1_ok; queuesize2_ok = h.queuesize2_ok }
+with_ok p (setting.Output out.Conout n) h k = record { arcdata_ok = h.arcdata_ok; nodedata_ok = h.nodedata_ok; condata_ok = h.condata_ok; certdata_ok = h.certdata_ok; conin_ok = h.conin_ok; dualin_ok = h.dualin_ok; sessiondata_ok = h.sessiondata_ok; defcost_ok = h.defcost_ok; defminflow_ok = h.defminflow_ok; defcapacity_ok = h.defcapacity_ok; defcontype_ok = h.defcontype_ok; source_ok = h.source_ok; sink_ok = h.sink_ok; supply_ok = h.supply_ok; demand_ok = h.demand_ok; arcout_ok = h.arcout_ok; nodeout_ok = h.nodeout_ok; conout_ok = k; dualout_ok = h.dualout_ok; sessionout_ok = h.sessionout_ok; certout_ok = h.certout_ok; maxit1_ok = h.maxit1_ok; maxit2_ok = h.maxit2_ok; pause1_ok = h.pause1_ok; pause2_ok = h.pause2_ok; queuesize1_ok = h.queuesize1_ok; queuesize2_ok = h.queuesize2_ok }
+with_ok p (setting.Output out.Dualout n) h k = record { arcdata_ok = h.arcdata_ok; nodedata_ok = h.nodedata_ok; condata_ok = h.condata_ok; certdata_ok = h.certdata_ok; conin_ok = h.conin_ok; dualin_ok = h.dualin_ok; sessiondata_ok = h.sessiondata_ok; defcost_ok = h.defcost_ok; defminflow_ok = h.defminflow_ok; defcapacity_ok = h.defcapacity_ok; defcontype_ok = h.defcontype_ok; source_ok = h.source_ok; sink_ok = h.sink_ok; supply_ok = h.supply_ok; demand_ok = h.demand_ok; arcout_ok = h.arcout_ok; nodeout_ok = h.nodeout_ok; conout_ok = h.conout_ok; dualout_ok = k; sessionout_ok = h.sessionout_ok; certout_ok = h.certout_ok; maxit1_ok = h.maxit1_ok; maxit2_ok = h.maxit2_ok; pause1_ok = h.pause1_ok; pause2_ok = h.pause2_ok; queuesize1_ok = h.queuesize1_ok; queuesize2_ok = h.queuesize2_ok }
+with_ok p (setting.Output out.Sessionout n) h k = record { arcdata_ok = h.arcdata_ok; nodedata_ok = h.nodedata_ok; condata_ok = h.condata_ok; certdata_ok = h.certdata_ok; conin_ok = h.conin_ok; dualin_ok = h.dualin_ok; sessiondata_ok = h.sessiondata_ok; defcost_ok = h.defcost_ok; defminflow_ok = h.defminflow_ok; defcapacity_ok = h.defcapacity_ok; defcontype_ok = h.defcontype_ok; source_ok = h.source_ok; sink_ok = h.sink_ok; supply_ok = h.supply_ok; demand_ok = h.demand_ok; arcout_ok = h.arcout_ok; nodeout_ok = h.nodeout_ok; conout_ok = h.conout_ok; dualout_ok = h.dualout_ok; sessionout_ok = k; certout_ok = h.certout_ok; maxit1_ok = h.maxit1_ok; maxit2_ok = h.maxit2_ok; pause1_ok = h.pause1_ok; pause2_ok = h.pause2_ok; queuesize1_ok = h.queuesize1_ok; queuesize2_ok = h.queuesize2_ok }
+with_ok p (setting.Output out.Certout n) h k = record { arcdata_ok = h.arcdata_ok; nodedata_ok = h.nodedata_ok; condata_ok = h.condata_ok; certdata_ok = h.certdata_ok; conin_ok = h.conin_ok; dualin_ok = h.dualin_ok; sessiondata_ok = h.sessiondata_ok; defcost_ok = h.defcost_ok; defminflow_ok = h.defminflow_ok; defcapacity_ok = h.defcapacity_ok; defcontype_ok = h.defcontype_ok; source_ok = h.source_ok; sink_ok = h.sink_ok; supply_ok = h.supply_ok; demand_ok = h.demand_ok; arcout_ok = h.arcout_ok; nodeout_ok = h.nodeout_ok; conout_ok = h.conout_ok; dualout_ok = h.dualout_ok; sessionout_ok = h.sessionout_ok; certout_ok = k; maxit1_ok = h.maxit1_ok; maxit2_ok = h.maxit2_ok; pause1_ok = h.pause1_ok; pause2_ok = h.pause2_ok; queuesize1_ok = h.queuesize1_ok; queuesize2_ok = h.queuesize2_ok }
+with_ok p (setting.Count count.Maxit1 n) h k = record { arcdata_ok = h.arcdata_ok; nodedata_ok = h.nodedata_ok; condata_ok = h.condata_ok; certdata_ok = h.certdata_ok; conin_ok = h.conin_ok; dualin_ok = h.dualin_ok; sessiondata_ok = h.sessiondata_ok; defcost_ok = h.defcost_ok; defminflow_ok = h.defminflow_ok; defcapacity_ok = h.defcapacity_ok; defcontype_ok = h.defcontype_ok; source_ok = h.source_ok; sink_ok = h.sink_ok; supply_ok = h.supply_ok; demand_ok = h.demand_ok; arcout_ok = h.arcout_ok; nodeout_ok = h.nodeout_ok; conout_ok = h.conout_ok; dualout_ok = h.dualout_ok; sessionout_ok = h.sessionout_ok; certout_ok = h.certout_ok; maxit1_ok = k; maxit2_ok = h.maxit2_ok; pause1_ok = h.pause1_ok; pause2_ok = h.pause2_ok; queuesize1_ok = h.queuesize1_ok; queuesize2_ok = h.queuesize2_ok }
+with_ok p (setting.Count count.Maxit2 n) h k = record { arcdata_ok = h.arcdata_ok; nodedata_ok = h.nodedata_ok; condata_ok = h.condata_ok; certdata_ok = h.certdata_ok; conin_ok = h.conin_ok; dualin_ok = h.dualin_ok; sessiondata_ok = h.sessiondata_ok; defcost_ok = h.defcost_ok; defminflow_ok = h.defminflow_ok; defcapacity_ok = h.defcapacity_ok; defcontype_ok = h.defcontype_ok; source_ok = h.source_ok; sink_ok = h.sink_ok; supply_ok = h.supply_ok; demand_ok = h.demand_ok; arcout_ok = h.arcout_ok; nodeout_ok = h.nodeout_ok; conout_ok = h.conout_ok; dualout_ok = h.dualout_ok; sessionout_ok = h.sessionout_ok; certout_ok = h.certout_ok; maxit1_ok = h.maxit1_ok; maxit2_ok = k; pause1_ok = h.pause1_ok; pause2_ok = h.pause2_ok; queuesize1_ok = h.queuesize1_ok; queuesize2_ok = h.queuesize2_ok }
+with_ok p (setting.Count count.Pause1 n) h k = record { arcdata_ok = h.arcdata_ok; nodedata_ok = h.nodedata_ok; condata_ok = h.condata_ok; certdata_ok = h.certdata_ok; conin_ok = h.conin_ok; dualin_ok = h.dualin_ok; sessiondata_ok = h.sessiondata_ok; defcost_ok = h.defcost_ok; defminflow_ok = h.defminflow_ok; defcapacity_ok = h.defcapacity_ok; defcontype_ok = h.defcontype_ok; source_ok = h.source_ok; sink_ok = h.sink_ok; supply_ok = h.supply_ok; demand_ok = h.demand_ok; arcout_ok = h.arcout_ok; nodeout_ok = h.nodeout_ok; conout_ok = h.conout_ok; dualout_ok = h.dualout_ok; sessionout_ok = h.sessionout_ok; certout_ok = h.certout_ok; maxit1_ok = h.maxit1_ok; maxit2_ok = h.maxit2_ok; pause1_ok = k; pause2_ok = h.pause2_ok; queuesize1_ok = h.queuesize1_ok; queuesize2_ok = h.queuesize2_ok }
+with_ok p (setting.Count count.Pause2 n) h k = record { arcdata_ok = h.arcdata_ok; nodedata_ok = h.nodedata_ok; condata_ok = h.condata_ok; certdata_ok = h.certdata_ok; conin_ok = h.conin_ok; dualin_ok = h.dualin_ok; sessiondata_ok = h.sessiondata_ok; defcost_ok = h.defcost_ok; defminflow_ok = h.defminflow_ok; defcapacity_ok = h.defcapacity_ok; defcontype_ok = h.defcontype_ok; source_ok = h.source_ok; sink_ok = h.sink_ok; supply_ok = h.supply_ok; demand_ok = h.demand_ok; arcout_ok = h.arcout_ok; nodeout_ok = h.nodeout_ok; conout_ok = h.conout_ok; dualout_ok = h.dualout_ok; sessionout_ok = h.sessionout_ok; certout_ok = h.certout_ok; maxit1_ok = h.maxit1_ok; maxit2_ok = h.maxit2_ok; pause1_ok = h.pause1_ok; pause2_ok = k; queuesize1_ok = h.queuesize1_ok; queuesize2_ok = h.queuesize2_ok }
+with_ok p (setting.Count count.QueueSize1 n) h k = record { arcdata_ok = h.arcdata_ok; nodedata_ok = h.nodedata_ok; condata_ok = h.condata_ok; certdata_ok = h.certdata_ok; conin_ok = h.conin_ok; dualin_ok = h.dualin_ok; sessiondata_ok = h.sessiondata_ok; defcost_ok = h.defcost_ok; defminflow_ok = h.defminflow_ok; defcapacity_ok = h.defcapacity_ok; defcontype_ok = h.defcontype_ok; source_ok = h.source_ok; sink_ok = h.sink_ok; supply_ok = h.supply_ok; demand_ok = h.demand_ok; arcout_ok = h.arcout_ok; nodeout_ok = h.nodeout_ok; conout_ok = h.conout_ok; dualout_ok = h.dualout_ok; sessionout_ok = h.sessionout_ok; certout_ok = h.certout_ok; maxit1_ok = h.maxit1_ok; maxit2_ok = h.maxit2_ok; pause1_ok = h.pause1_ok; pause2_ok = h.pause2_ok; queuesize1_ok = k; queuesize2_ok = h.queuesize2_ok }
+with_ok p (setting.Count count.QueueSize2 n) h k = record { arcdata_ok = h.arcdata_ok; nodedata_ok = h.nodedata_ok; condata_ok = h.condata_ok; certdata_ok = h.certdata_ok; conin_ok = h.conin_ok; dualin_ok = h.dualin_ok; sessiondata_ok = h.sessiondata_ok; defcost_ok = h.defcost_ok; defminflow_ok = h.defminflow_ok; defcapacity_ok = h.defcapacity_ok; defcontype_ok = h.defcontype_ok; source_ok = h.source_ok; sink_ok = h.sink_ok; supply_ok = h.supply_ok; demand_ok = h.demand_ok; arcout_ok = h.arcout_ok; nodeout_ok = h.nodeout_ok; conout_ok = h.conout_ok; dualout_ok = h.dualout_ok; sessionout_ok = h.sessionout_ok; certout_ok = h.certout_ok; maxit1_ok = h.maxit1_ok; maxit2_ok = h.maxit2_ok; pause1_ok = h.pause1_ok; pause2_ok = h.pause2_ok; queuesize1_ok = h.queuesize1_ok; queuesize2_ok = k }
+with_ok p (setting.Switch switch.FeasiblePause1 b) h k = record { arcdata_ok = h.arcdata_ok; nodedata_ok = h.nodedata_ok; condata_ok = h.condata_ok; certdata_ok = h.certdata_ok; conin_ok = h.conin_ok; dualin_ok = h.dualin_ok; sessiondata_ok = h.sessiondata_ok; defcost_ok = h.defcost_ok; defminflow_ok = h.defminflow_ok; defcapacity_ok = h.defcapacity_ok; defcontype_ok = h.defcontype_ok; source_ok = h.source_ok; sink_ok = h.sink_ok; supply_ok = h.supply_ok; demand_ok = h.demand_ok; arcout_ok = h.arcout_ok; nodeout_ok = h.nodeout_ok; conout_ok = h.conout_ok; dualout_ok = h.dualout_ok; sessionout_ok = h.sessionout_ok; certout_ok = h.certout_ok; maxit1_ok = h.maxit1_ok; maxit2_ok = h.maxit2_ok; pause1_ok = h.pause1_ok; pause2_ok = h.pause2_ok; queuesize1_ok = h.queuesize1_ok; queuesize2_ok = h.queuesize2_ok }
+with_ok p (setting.Switch switch.FeasiblePause2 b) h k = record { arcdata_ok = h.arcdata_ok; nodedata_ok = h.nodedata_ok; condata_ok = h.condata_ok; certdata_ok = h.certdata_ok; conin_ok = h.conin_ok; dualin_ok = h.dualin_ok; sessiondata_ok = h.sessiondata_ok; defcost_ok = h.defcost_ok; defminflow_ok = h.defminflow_ok; defcapacity_ok = h.defcapacity_ok; defcontype_ok = h.defcontype_ok; source_ok = h.source_ok; sink_ok = h.sink_ok; supply_ok = h.supply_ok; demand_ok = h.demand_ok; arcout_ok = h.arcout_ok; nodeout_ok = h.nodeout_ok; conout_ok = h.conout_ok; dualout_ok = h.dualout_ok; sessionout_ok = h.sessionout_ok; certout_ok = h.certout_ok; maxit1_ok = h.maxit1_ok; maxit2_ok = h.maxit2_ok; pause1_ok = h.pause1_ok; pause2_ok = h.pause2_ok; queuesize1_ok = h.queuesize1_ok; queuesize2_ok = h.queuesize2_ok }
+with_ok p (setting.Switch switch.EndPause1 b) h k = record { arcdata_ok = h.arcdata_ok; nodedata_ok = h.nodedata_ok; condata_ok = h.condata_ok; certdata_ok = h.certdata_ok; conin_ok = h.conin_ok; dualin_ok = h.dualin_ok; sessiondata_ok = h.sessiondata_ok; defcost_ok = h.defcost_ok; defminflow_ok = h.defminflow_ok; defcapacity_ok = h.defcapacity_ok; defcontype_ok = h.defcontype_ok; source_ok = h.source_ok; sink_ok = h.sink_ok; supply_ok = h.supply_ok; demand_ok = h.demand_ok; arcout_ok = h.arcout_ok; nodeout_ok = h.nodeout_ok; conout_ok = h.conout_ok; dualout_ok = h.dualout_ok; sessionout_ok = h.sessionout_ok; certout_ok = h.certout_ok; maxit1_ok = h.maxit1_ok; maxit2_ok = h.maxit2_ok; pause1_ok = h.pause1_ok; pause2_ok = h.pause2_ok; queuesize1_ok = h.queuesize1_ok; queuesize2_ok = h.queuesize2_ok }
+with_ok p (setting.Switch switch.Future1 b) h k = record { arcdata_ok = h.arcdata_ok; nodedata_ok = h.nodedata_ok; condata_ok = h.condata_ok; certdata_ok = h.certdata_ok; conin_ok = h.conin_ok; dualin_ok = h.dualin_ok; sessiondata_ok = h.sessiondata_ok; defcost_ok = h.defcost_ok; defminflow_ok = h.defminflow_ok; defcapacity_ok = h.defcapacity_ok; defcontype_ok = h.defcontype_ok; source_ok = h.source_ok; sink_ok = h.sink_ok; supply_ok = h.supply_ok; demand_ok = h.demand_ok; arcout_ok = h.arcout_ok; nodeout_ok = h.nodeout_ok; conout_ok = h.conout_ok; dualout_ok = h.dualout_ok; sessionout_ok = h.sessionout_ok; certout_ok = h.certout_ok; maxit1_ok = h.maxit1_ok; maxit2_ok = h.maxit2_ok; pause1_ok = h.pause1_ok; pause2_ok = h.pause2_ok; queuesize1_ok = h.queuesize1_ok; queuesize2_ok = h.queuesize2_ok }
+with_ok p (setting.Switch switch.Future2 b) h k = record { arcdata_ok = h.arcdata_ok; nodedata_ok = h.nodedata_ok; condata_ok = h.condata_ok; certdata_ok = h.certdata_ok; conin_ok = h.conin_ok; dualin_ok = h.dualin_ok; sessiondata_ok = h.sessiondata_ok; defcost_ok = h.defcost_ok; defminflow_ok = h.defminflow_ok; defcapacity_ok = h.defcapacity_ok; defcontype_ok = h.defcontype_ok; source_ok = h.source_ok; sink_ok = h.sink_ok; supply_ok = h.supply_ok; demand_ok = h.demand_ok; arcout_ok = h.arcout_ok; nodeout_ok = h.nodeout_ok; conout_ok = h.conout_ok; dualout_ok = h.dualout_ok; sessionout_ok = h.sessionout_ok; certout_ok = h.certout_ok; maxit1_ok = h.maxit1_ok; maxit2_ok = h.maxit2_ok; pause1_ok = h.pause1_ok; pause2_ok = h.pause2_ok; queuesize1_ok = h.queuesize1_ok; queuesize2_ok = h.queuesize2_ok }
+with_ok p (setting.Rule rule.PriceType1 r) h k = record { arcdata_ok = h.arcdata_ok; nodedata_ok = h.nodedata_ok; condata_ok = h.condata_ok; certdata_ok = h.certdata_ok; conin_ok = h.conin_ok; dualin_ok = h.dualin_ok; sessiondata_ok = h.sessiondata_ok; defcost_ok = h.defcost_ok; defminflow_ok = h.defminflow_ok; defcapacity_ok = h.defcapacity_ok; defcontype_ok = h.defcontype_ok; source_ok = h.source_ok; sink_ok = h.sink_ok; supply_ok = h.supply_ok; demand_ok = h.demand_ok; arcout_ok = h.arcout_ok; nodeout_ok = h.nodeout_ok; conout_ok = h.conout_ok; dualout_ok = h.dualout_ok; sessionout_ok = h.sessionout_ok; certout_ok = h.certout_ok; maxit1_ok = h.maxit1_ok; maxit2_ok = h.maxit2_ok; pause1_ok = h.pause1_ok; pause2_ok = h.pause2_ok; queuesize1_ok = h.queuesize1_ok; queuesize2_ok = h.queuesize2_ok }
+with_ok p (setting.Rule rule.PriceType2 r) h k = record { arcdata_ok = h.arcdata_ok; nodedata_ok = h.nodedata_ok; condata_ok = h.condata_ok; certdata_ok = h.certdata_ok; conin_ok = h.conin_ok; dualin_ok = h.dualin_ok; sessiondata_ok = h.sessiondata_ok; defcost_ok = h.defcost_ok; defminflow_ok = h.defminflow_ok; defcapacity_ok = h.defcapacity_ok; defcontype_ok = h.defcontype_ok; source_ok = h.source_ok; sink_ok = h.sink_ok; supply_ok = h.supply_ok; demand_ok = h.demand_ok; arcout_ok = h.arcout_ok; nodeout_ok = h.nodeout_ok; conout_ok = h.conout_ok; dualout_ok = h.dualout_ok; sessionout_ok = h.sessionout_ok; certout_ok = h.certout_ok; maxit1_ok = h.maxit1_ok; maxit2_ok = h.maxit2_ok; pause1_ok = h.pause1_ok; pause2_ok = h.pause2_ok; queuesize1_ok = h.queuesize1_ok; queuesize2_ok = h.queuesize2_ok }
 
 made_ok : (ss : List Setting) (p : ProcOptions) → ProcOk p → SettingsOk ss → ProcOk (fold with_setting p ss)
 made_ok [] p h k = h
@@ -443,8 +466,9 @@ unfolding SettingOk
 rule_given_ok price.First o rest k = k
 rule_given_ok price.Best o rest k = (tt, k)
 rule_given_ok price.Bland o rest k = (tt, k)
+rule_given_ok price.Queue o rest k = (tt, k)
 
-count_given_ok : (b : Bool) (n : ℕ) (o : CountOption) (rest : List Setting) → n < 1_000_000_000 → SettingsOk rest → SettingsOk ((if b then [] else setting.Count o n ∷ []) ++ rest)
+count_given_ok : (b : Bool) (n : ℕ) (o : CountOption) (rest : List Setting) → CountOk o n → SettingsOk rest → SettingsOk ((if b then [] else setting.Count o n ∷ []) ++ rest)
 unfolding SettingOk
 count_given_ok true n o rest h k = k
 count_given_ok false n o rest h k = (h, k)
@@ -463,31 +487,35 @@ proc_settings_ok p h = subst SettingsOk (sym (flat p)) (
     (flag_given_ok p.thrunet flag.Thrunet (r8 p)
     (flag_given_ok p.maximize flag.Maximize (r9 p)
     (flag_given_ok p.warm flag.Warm (r10 p)
-    (given_ok p.defcost (setting.Amount amount.DefCost) (r11 p) h.defcost_ok
-    (given_ok p.defminflow (setting.Amount amount.DefMinFlow) (r12 p) h.defminflow_ok
-    (given_ok p.defcapacity setting.DefCapacity (r13 p) h.defcapacity_ok
-    (given_ok p.defcontype setting.DefConType (r14 p) h.defcontype_ok
-    (given_ok p.source (setting.Node node.Source) (r15 p) h.source_ok
-    (given_ok p.sink (setting.Node node.Sink) (r16 p) h.sink_ok
-    (given_ok p.supply (setting.Amount amount.Supply) (r17 p) h.supply_ok
-    (given_ok p.demand (setting.Amount amount.Demand) (r18 p) h.demand_ok
-    (given_ok p.arcout (setting.Output out.Arcout) (r19 p) h.arcout_ok
-    (given_ok p.nodeout (setting.Output out.Nodeout) (r20 p) h.nodeout_ok
-    (given_ok p.conout (setting.Output out.Conout) (r21 p) h.conout_ok
-    (given_ok p.dualout (setting.Output out.Dualout) (r22 p) h.dualout_ok
-    (given_ok p.sessionout (setting.Output out.Sessionout) (r23 p) h.sessionout_ok
-    (given_ok p.certout (setting.Output out.Certout) (r24 p) h.certout_ok
-    (count_given_ok (p.session.maxit1 == 1000000) p.session.maxit1 count.Maxit1 (r25 p) h.maxit1_ok
-    (count_given_ok (p.session.maxit2 == 1000000) p.session.maxit2 count.Maxit2 (r26 p) h.maxit2_ok
-    (count_given_ok (p.session.pause1 == 0) p.session.pause1 count.Pause1 (r27 p) h.pause1_ok
-    (count_given_ok (p.session.pause2 == 0) p.session.pause2 count.Pause2 (r28 p) h.pause2_ok
-    (switch_given_ok p.session.feasiblepause1 switch.FeasiblePause1 (r29 p)
-    (switch_given_ok p.session.feasiblepause2 switch.FeasiblePause2 (r30 p)
-    (switch_given_ok p.session.endpause1 switch.EndPause1 (r31 p)
-    (switch_given_ok p.session.future1 switch.Future1 (r32 p)
-    (switch_given_ok p.session.future2 switch.Future2 (r33 p)
-    (rule_given_ok p.session.pricetype1 rule.PriceType1 (r34 p)
-    (subst SettingsOk (append-nil (rule_given rule.PriceType2 p.session.pricetype2)) (rule_given_ok p.session.pricetype2 rule.PriceType2 [] tt)))))))))))))))))))))))))))))))))))))
+    (flag_given_ok p.maxflow flag.MaxFlow (r11 p)
+    (flag_given_ok p.shortpath flag.ShortPath (r12 p)
+    (given_ok p.defcost (setting.Amount amount.DefCost) (r13 p) h.defcost_ok
+    (given_ok p.defminflow (setting.Amount amount.DefMinFlow) (r14 p) h.defminflow_ok
+    (given_ok p.defcapacity setting.DefCapacity (r15 p) h.defcapacity_ok
+    (given_ok p.defcontype setting.DefConType (r16 p) h.defcontype_ok
+    (given_ok p.source (setting.Node node.Source) (r17 p) h.source_ok
+    (given_ok p.sink (setting.Node node.Sink) (r18 p) h.sink_ok
+    (given_ok p.supply (setting.Amount amount.Supply) (r19 p) h.supply_ok
+    (given_ok p.demand (setting.Amount amount.Demand) (r20 p) h.demand_ok
+    (given_ok p.arcout (setting.Output out.Arcout) (r21 p) h.arcout_ok
+    (given_ok p.nodeout (setting.Output out.Nodeout) (r22 p) h.nodeout_ok
+    (given_ok p.conout (setting.Output out.Conout) (r23 p) h.conout_ok
+    (given_ok p.dualout (setting.Output out.Dualout) (r24 p) h.dualout_ok
+    (given_ok p.sessionout (setting.Output out.Sessionout) (r25 p) h.sessionout_ok
+    (given_ok p.certout (setting.Output out.Certout) (r26 p) h.certout_ok
+    (count_given_ok (p.session.maxit1 == 1000000) p.session.maxit1 count.Maxit1 (r27 p) h.maxit1_ok
+    (count_given_ok (p.session.maxit2 == 1000000) p.session.maxit2 count.Maxit2 (r28 p) h.maxit2_ok
+    (count_given_ok (p.session.pause1 == 0) p.session.pause1 count.Pause1 (r29 p) h.pause1_ok
+    (count_given_ok (p.session.pause2 == 0) p.session.pause2 count.Pause2 (r30 p) h.pause2_ok
+    (switch_given_ok p.session.feasiblepause1 switch.FeasiblePause1 (r31 p)
+    (switch_given_ok p.session.feasiblepause2 switch.FeasiblePause2 (r32 p)
+    (switch_given_ok p.session.endpause1 switch.EndPause1 (r33 p)
+    (switch_given_ok p.session.future1 switch.Future1 (r34 p)
+    (switch_given_ok p.session.future2 switch.Future2 (r35 p)
+    (rule_given_ok p.session.pricetype1 rule.PriceType1 (r36 p)
+    (rule_given_ok p.session.pricetype2 rule.PriceType2 (r37 p)
+    (count_given_ok (p.session.queuesize1 == 10) p.session.queuesize1 count.QueueSize1 (r38 p) h.queuesize1_ok
+    (subst SettingsOk (append-nil (count_given count.QueueSize2 10 p.session.queuesize2)) (count_given_ok (p.session.queuesize2 == 10) p.session.queuesize2 count.QueueSize2 [] h.queuesize2_ok tt)))))))))))))))))))))))))))))))))))))))))
 
 -- ---- names of data sets as text
 

@@ -25,7 +25,7 @@ use Rattle.nf_program.specs.declared.words.StatementWord.TheVariants as word
 use Rattle.nf_program.specs.declared.settings.Setting.{Setting}
 use Rattle.nf_program.specs.declared.settings.Setting.TheVariants as setting
 use Rattle.nf_program.specs.Values.{Fits, is_name_byte, IsColumn, IsNode}
-use Rattle.nf_program.specs.Settings.{word_of, key_of, is_apart, lacks, reset_setting, save_setting}
+use Rattle.nf_program.specs.Settings.{word_of, key_of, is_apart, lacks, are_wrong_together, reset_setting, save_setting}
 use Rattle.nf_program.specs.Programs.{AreDistinct, RoleColumns, print_number, show_number}
 use Rattle.nf_program.specs.Grammar.{NamesPrint, NamesShow, One, Each, IsSetting, AreSettings, IsStatement, IsNetflow, HasColumns, IsRole, ArePrints, AreShows, IsNothing, IsAct, Statements, QuitIsLast, Serves, role_key, IsProgram, HasProgram}
 use Rattle.nf_writer.specs.Canonical.{statement_text, option_text, print_text, show_text, a_word, space, newline, semicolon, is_plain, mark_for, name_piece, value_pieces, setting_pieces, settings_of, line, proc_pieces, column_pieces, role_pieces, print_pieces, show_pieces, act_pieces, program_pieces, text_of, canonical}
@@ -126,7 +126,7 @@ setting_good (setting.DefConType t) after h apart = (plain_word _ (option_spelle
 setting_good (setting.Node o n) after h apart =
     let stands = name_stands n after (node_writable n h.0) apart in
     (plain_word _ (option_spelled (word_of (setting.Node o n))).0, refl, (refl, tt, (stands.0, stands.1, tt)))
-setting_good (setting.Count o n) after h apart = (plain_word _ (option_spelled (word_of (setting.Count o n))).0, refl, (refl, tt, (count_number n h, apart.no_number, tt)))
+setting_good (setting.Count o n) after h apart = (plain_word _ (option_spelled (word_of (setting.Count o n))).0, refl, (refl, tt, (count_number n h.0, apart.no_number, tt)))
 setting_good (setting.Rule o r) after h apart = (plain_word _ (option_spelled (word_of (setting.Rule o r))).0, refl, (refl, tt, (plain_word _ (price_type_spelled r).0, apart.no_word, tt)))
 
 column_good : (n after : List ℕ) → Writable n → Apart after → Good (name_piece n ∷ []) after
@@ -202,7 +202,7 @@ setting_is (setting.Node o n) at h =
     let e : Lexeme = record { kind = Equals; bytes = 61 ∷ []; at = at + 1 + length text } in
     node_is n (at + 1 + length text + 1) (λ ts. IsSetting (setting.Node o n) (w ∷ e ∷ (ts ++ []))) h
     (λ v is. (w, e, v, refl, (refl, (option_spelled (word_of (setting.Node o n))).1), refl, is))
-setting_is (setting.Count o n) at h = (_, _, _, refl, (refl, (option_spelled (word_of (setting.Count o n))).1), refl, (refl, count_digits n h, count_short n h, count_value n h))
+setting_is (setting.Count o n) at h = (_, _, _, refl, (refl, (option_spelled (word_of (setting.Count o n))).1), refl, ((refl, count_digits n h.0, count_short n h.0, count_value n h.0), h.1, h.2))
 setting_is (setting.Rule o r) at h = (_, _, _, refl, (refl, (option_spelled (word_of (setting.Rule o r))).1), refl, (refl, (price_type_spelled r).1))
 
 -- ---- what a program of a text has
@@ -324,7 +324,7 @@ unfolding Good
 flat_good Fine pieces one [] after h = tt
 flat_good Fine pieces one (x ∷ xs) after h = good_append (pieces x) (flat_map pieces xs) after (one x (text_of (flat_map pieces xs) ++ after) h.0) (flat_good Fine pieces one xs after h.1)
 
-proc_is : (c : Command) (p : ProcOptions) (at : ℕ) → SettingsOk (settings_of p) → is_apart (settings_of p) ≡ true → lacks c p ≡ false → IsStatement word.Proc (IsNetflow c p) (lexemes_of at (proc_pieces p))
+proc_is : (c : Command) (p : ProcOptions) (at : ℕ) → SettingsOk (settings_of p) → is_apart (settings_of p) ≡ true → (lacks c p ≡ false) × (are_wrong_together p ≡ false) → IsStatement word.Proc (IsNetflow c p) (lexemes_of at (proc_pieces p))
 unfolding lexemes_of lexeme_at
 proc_is c p at h apart whole =
     line_is word.Proc (space ∷ a_word (codes "netflow") ∷ flat_map setting_pieces (settings_of p)) (IsNetflow c p) at
@@ -392,7 +392,7 @@ role_is x at h =
 record Fine (c : Command) (p : Program) : Type 0 where
   settings : SettingsOk (settings_of p.proc)
   apart : is_apart (settings_of p.proc) ≡ true
-  whole : lacks c p.proc ≡ false
+  whole : (lacks c p.proc ≡ false) × (are_wrong_together p.proc ≡ false)
   roles : AllByRecursion RoleFine p.roles
   once : AreDistinct (map role_key p.roles)
   acts : AllByRecursion ActFine p.acts

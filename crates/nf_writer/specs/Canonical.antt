@@ -66,7 +66,7 @@ statement_number word.Save = 22
 statement_number word.Run = 23
 statement_number word.Quit = 24
 
--- the number of an option's word in its list, in which a NO form stands behind its flag
+-- the number of an option's word in its list, in which a NO form stands after its flag
 abbrev pub option_number : OptionWord → ℕ
 option_number (option.Switch o false) = switch_key o + 1
 option_number o = option_key o
@@ -82,6 +82,7 @@ abbrev pub price_type_number : PriceType → ℕ
 price_type_number price.First = 0
 price_type_number price.Best = 1
 price_type_number price.Bland = 2
+price_type_number price.Queue = 3
 
 -- The word of a statement.
 unfoldable pub statement_text : StatementWord → List ℕ
@@ -109,7 +110,7 @@ price_type_text r = spelled price_list (price_type_number r)
 
 -- ---- amounts
 
--- up to three digits behind a point, without trailing zeros
+-- up to three digits after a point, without trailing zeros
 abbrev pub fraction_text : ℕ → List ℕ
 fraction_text n =
     if n == 0 then []
@@ -126,7 +127,7 @@ sign_text (negsuc n) = 45 ∷ []
 abbrev pub size_text : ℕ → List ℕ
 size_text n = decimal (n / 1000) ++ fraction_text (n % 1000)
 
--- An amount, without trailing zeros behind the point.
+-- An amount, without trailing zeros after the point.
 unfoldable pub amount_text : Amount → List ℕ
 amount_text a = sign_text a.thousandths ++ size_text (unsigned_abs a.thousandths)
 
@@ -161,11 +162,11 @@ abbrev pub is_plain : List ℕ → Bool
 is_plain [] = false
 is_plain (b ∷ bs) = is_letter b && list_all is_word_byte bs
 
--- double quotes, or single ones where the name has a double one
+-- double quotes, or single ones if the name has a double one
 abbrev pub mark_for : List ℕ → ℕ
 mark_for name = if list_any (λ b. b == 34) name then 39 else 34
 
--- a name as a plain word where it is one, else in quotes
+-- a name as a plain word if it is one, else in quotes
 unfoldable pub name_piece : List ℕ → Piece
 name_piece name = if is_plain name then a_word name else record { kind = Some Quoted; bytes = mark_for name ∷ (name ++ mark_for name ∷ []) }
 
@@ -174,7 +175,7 @@ abbrev pub bound_piece : Bound → Piece
 bound_piece (Finite a) = a_number (amount_text a)
 bound_piece Infinite = a_word (codes "inf")
 
--- The option takes a value.
+-- The option has a value.
 abbrev pub has_value : OptionWord → Bool
 has_value (option.Flag o) = false
 has_value (option.Switch o b) = false
@@ -197,15 +198,15 @@ value_piece (setting.Switch o b) = a_word []
 abbrev pub value_text : Setting → List ℕ
 value_text s = (value_piece s).bytes
 
--- what stands behind an option's word: `=` and its value
+-- what stands after an option's word: `=` and its value
 abbrev pub value_pieces : Setting → List Piece
 value_pieces s = if has_value (word_of s) then equals ∷ value_piece s ∷ [] else []
 
--- A setting behind a space: its word, and its value where it has one.
+-- A setting after a space: its word, and its value if it has one.
 abbrev pub setting_pieces : Setting → List Piece
 setting_pieces s = space ∷ a_word (option_text (word_of s)) ∷ value_pieces s
 
--- ---- the options of PROC in their order, those of the session where they are not the default
+-- ---- the options of PROC in their order, those of the session if they are not the default
 
 -- The setting of an option that has a value, if it is given.
 abbrev pub given : {A : Type 0} → (A → Setting) → Option A → List Setting
@@ -238,7 +239,7 @@ inputs_of p =
 
 -- The flags of PROC, in their order.
 unfoldable pub flags_of : ProcOptions → List Setting
-flags_of p = flag_given flag.SparseConData p.sparsecondata ++ (flag_given flag.Thrunet p.thrunet ++ (flag_given flag.Maximize p.maximize ++ flag_given flag.Warm p.warm))
+flags_of p = flag_given flag.SparseConData p.sparsecondata ++ (flag_given flag.Thrunet p.thrunet ++ (flag_given flag.Maximize p.maximize ++ (flag_given flag.Warm p.warm ++ (flag_given flag.MaxFlow p.maxflow ++ flag_given flag.ShortPath p.shortpath))))
 
 -- The other options of PROC, in their order.
 unfoldable pub others_of : ProcOptions → List Setting
@@ -267,9 +268,13 @@ switches_of s =
 unfoldable pub rules_of : SessionOptions → List Setting
 rules_of s = rule_given rule.PriceType1 s.pricetype1 ++ rule_given rule.PriceType2 s.pricetype2
 
+-- The sizes of the queue, in their order.
+unfoldable pub sizes_of : SessionOptions → List Setting
+sizes_of s = count_given count.QueueSize1 10 s.queuesize1 ++ count_given count.QueueSize2 10 s.queuesize2
+
 -- The options of the session, in their order.
 abbrev pub session_of : SessionOptions → List Setting
-session_of s = counts_of s ++ (switches_of s ++ rules_of s)
+session_of s = counts_of s ++ (switches_of s ++ (rules_of s ++ sizes_of s))
 
 -- The options of PROC, in the order of their lists.
 unfoldable pub settings_of : ProcOptions → List Setting
@@ -277,7 +282,7 @@ settings_of p = inputs_of p ++ (flags_of p ++ (others_of p ++ (outputs_of p ++ s
 
 -- ---- statements
 
--- a statement on its line: what stands behind its word, and a semicolon
+-- a statement on its line: what stands after its word, and a semicolon
 abbrev pub line : StatementWord → List Piece → List Piece
 line s body = a_word (statement_text s) ∷ (body ++ semicolon ∷ newline ∷ [])
 
@@ -285,7 +290,7 @@ line s body = a_word (statement_text s) ∷ (body ++ semicolon ∷ newline ∷ [
 abbrev pub proc_pieces : ProcOptions → List Piece
 proc_pieces p = line word.Proc (space ∷ a_word (codes "netflow") ∷ flat_map setting_pieces (settings_of p))
 
--- A column name behind a space.
+-- A column name after a space.
 abbrev pub column_pieces : List ℕ → List Piece
 column_pieces n = space ∷ name_piece n ∷ []
 
@@ -293,11 +298,11 @@ column_pieces n = space ∷ name_piece n ∷ []
 abbrev pub role_pieces : RoleColumns → List Piece
 role_pieces x = line (word.Role x.0) (flat_map column_pieces x.1)
 
--- An item of PRINT behind a space.
+-- An item of PRINT after a space.
 abbrev pub print_pieces : PrintItem → List Piece
 print_pieces i = space ∷ a_word (print_text i) ∷ []
 
--- An item of SHOW behind a space.
+-- An item of SHOW after a space.
 abbrev pub show_pieces : ShowItem → List Piece
 show_pieces i = space ∷ a_word (show_text i) ∷ []
 

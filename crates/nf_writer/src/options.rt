@@ -1,7 +1,7 @@
 //! The options of PROC as a list, in the order of the canonical text.
 ghost use Rattle.std.specs.Prelude.{◌≡◌, ◌++◌, OnOk, IfOk};
 ghost use Rattle.nf_program.specs.declared.settings.Setting.TheVariants.{Input, Node, Amount as OfAmount, Output};
-ghost use Rattle.nf_writer.specs.Canonical.{given, flag_given, count_given, switch_given, rule_given, inputs_of, flags_of, others_of, outputs_of, counts_of, switches_of, rules_of, settings_of};
+ghost use Rattle.nf_writer.specs.Canonical.{given, flag_given, count_given, switch_given, rule_given, inputs_of, flags_of, others_of, outputs_of, counts_of, switches_of, rules_of, sizes_of, settings_of};
 
 use nf_frac::Amount;
 use nf_program::settings::Setting;
@@ -54,7 +54,9 @@ fn add_flags(list: &mut Items<Setting>, p: &ProcOptions) -> Result<(), AllocErro
     add_flag(list, FlagOption::SparseConData, p.sparsecondata)?;
     add_flag(list, FlagOption::Thrunet, p.thrunet)?;
     add_flag(list, FlagOption::Maximize, p.maximize)?;
-    add_flag(list, FlagOption::Warm, p.warm)
+    add_flag(list, FlagOption::Warm, p.warm)?;
+    add_flag(list, FlagOption::MaxFlow, p.maxflow)?;
+    add_flag(list, FlagOption::ShortPath, p.shortpath)
 }
 
 fn add_amount(
@@ -193,7 +195,15 @@ fn add_rules(list: &mut Items<Setting>, s: &SessionOptions) -> Result<(), AllocE
     add_rule(list, RuleOption::PriceType2, s.pricetype2)
 }
 
-/// The options of PROC that are given, those of the session where they are not the default.
+#[tactic(auto, unfolding(crate::specs::Canonical::sizes_of))]
+fn add_sizes(list: &mut Items<Setting>, s: &SessionOptions) -> Result<(), AllocError>
+    ensures { OnOk result (list.new ≡ list.old ++ sizes_of s.now) }
+{
+    add_count(list, CountOption::QueueSize1, 10, s.queuesize1)?;
+    add_count(list, CountOption::QueueSize2, 10, s.queuesize2)
+}
+
+/// The options of PROC that are given, those of the session if they are not the default.
 #[tactic(auto, unfolding(crate::specs::Canonical::settings_of))]
 pub fn settings_of(alloc: Global, p: &ProcOptions) -> Result<Items<Setting>, AllocError>
     ensures { IfOk result (λ list. list ≡ settings_of p.now) }
@@ -206,5 +216,6 @@ pub fn settings_of(alloc: Global, p: &ProcOptions) -> Result<Items<Setting>, All
     add_counts(&mut list, &p.session)?;
     add_switches(&mut list, &p.session)?;
     add_rules(&mut list, &p.session)?;
+    add_sizes(&mut list, &p.session)?;
     Ok(list)
 }

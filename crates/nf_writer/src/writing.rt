@@ -60,7 +60,7 @@ fn option_number(option: OptionWord) -> u8
     ensures { result ≡ option_number option }
 {
     match option {
-        OptionWord::Switch(switch, false) => 30 + 2 * switch as u8,
+        OptionWord::Switch(switch, false) => 32 + 2 * switch as u8,
         _ => option.key(),
     }
 }
@@ -203,7 +203,7 @@ fn put_quoted(out: &mut Text, name: &[u8]) -> Result<(), AllocError>
     out.push(&[mark])
 }
 
-/// A name as a plain word where it is one, else in quotes.
+/// A name as a plain word if it is one, else in quotes.
 #[tactic(auto, unfolding(crate::specs::Canonical::name_piece))]
 fn put_name(out: &mut Text, name: &[u8]) -> Result<(), AllocError>
     ensures { OnOk result (out.new ≡ out.old ++ (name_piece name.now).bytes) }
@@ -329,6 +329,8 @@ fn reset_setting(option: ResetOption) -> Setting
         ResetOption::Future2(on) => Setting::Switch(SwitchOption::Future2, on),
         ResetOption::PriceType1(rule) => Setting::Rule(RuleOption::PriceType1, rule),
         ResetOption::PriceType2(rule) => Setting::Rule(RuleOption::PriceType2, rule),
+        ResetOption::QueueSize1(n) => Setting::Count(CountOption::QueueSize1, n),
+        ResetOption::QueueSize2(n) => Setting::Count(CountOption::QueueSize2, n),
     }
 }
 
