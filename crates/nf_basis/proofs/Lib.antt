@@ -1,12 +1,14 @@
 pub mod Named
-mod Lowest
+mod Resting
 pub mod Rests
 mod Entered
 pub mod Inverse
 pub mod Spread
+mod Steps
 pub mod Pivoted
 pub mod Arisen
 pub mod Flipped
+pub mod Priced
 pub mod Started
 pub mod Keeping
 mod Loaded
@@ -14,5 +16,6 @@ pub mod Wanted
 mod LoadStart
 pub mod LoadEnd
 pub mod RestNumbers
-mod Restored
+pub mod Restored
 pub mod FirstLoad
+mod Listed

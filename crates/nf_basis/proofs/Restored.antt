@@ -6,7 +6,7 @@ use Rattle.nf_num.specs.Sum.{sum_ℚ, delta}
 use Rattle.nf_frac.specs.declared.Passed.{Passed}
 use Rattle.nf_model.specs.Program.{LinearProgram, at, row}
 use Rattle.nf_model.specs.Problem.{IsProblem}
-use Rattle.nf_sums.specs.Terms.{PassesIn, Is}
+use Rattle.nf_sums.specs.Terms.{PassesIn}
 use Rattle.nf_sums.proofs.Laws.{wider}
 use Rattle.nf_inverse.specs.Weights.{weight, GivesEntries}
 use Rattle.nf_inverse.specs.Causes.{EntryTerms}
@@ -28,7 +28,7 @@ use Rattle.nf_simplex.proofs.Rows.{row_parts, given_sum}
 use Rattle.nf_simplex.proofs.Slots.{spread, spread_at, spread_off}
 use Rattle.nf_simplex.proofs.StageOf.{column_slack, column_artificial, column_cases}
 use Rattle.nf_basis.specs.declared.col.Col.{Col}
-use Rattle.nf_basis.specs.Arising.{IsLoadBasis, LoadTerms, StateTerms, IsRestNumber, AreRestNumbers, rest_at, rest_row}
+use Rattle.nf_basis.specs.Arising.{IsLoadBasis, LoadTerms, StateTerms, IsRestNumber, AreRestNumbers, rest_at}
 use Rattle.nf_basis.specs.Arising.StateTerms.{rest as rest_term}
 use Rattle.nf_basis.specs.Arising.IsRestNumber.{bound as at_bound}
 use Rattle.nf_basis.specs.Arising.IsRowFactor.{rest as rest_factor}
@@ -36,6 +36,7 @@ use Rattle.nf_basis.specs.Numbers.{slot_number, ListBasics}
 use Rattle.nf_basis.specs.Dense.{IsInverseOf, HasParts, bound_number, bound_at, spread_values}
 use Rattle.nf_basis.specs.Loading.{with_places, IsLoaded}
 use Rattle.nf_basis.specs.Products.{AreProducts}
+use Rattle.nf_basis.specs.AtBounds.{BoundTerms}
 use Rattle.nf_basis.proofs.Inverse.{slots_are, inverse_column, are_inverse, inverse_at, entries_arise}
 use Rattle.nf_basis.proofs.Pivoted.{values_by_one}
 use Rattle.nf_basis.proofs.RestNumbers.{zero_number}
@@ -142,95 +143,97 @@ module _ (p : LinearProgram) (s : Standing) (ok : IsProblem p) (slots : List Col
   pub inverse_end : IsInverseOf p s slots w
   inverse_end = record { size = h.inverse.size; right = h.inverse.right; left = h.inverse.left }
 
-  module _ (st : IsStateOf p s) where
-    own_load : IsLoadBasis p s s
-    unfolding basis_end
-    own_load = record {
-      same_stage = refl;
-      same_signs = refl;
-      state = st;
-      basis = basis_end;
-      keeps = record { nonbasic = λ j l n o. refl; waiting = λ j l n b. absurd (n b) };
-      wanted = λ j l b. inl b;
-    }
+-- A basis is a basis of its own load: its values, and where their operations arise.
+module _ (p : LinearProgram) (s : Standing) (ok : IsProblem p) (slots : List Col) (w : List (List ℚ)) (basis : IsBasisOf p s) (listed : ListBasics p s slots) (inverse : IsInverseOf p s slots w) (st : IsStateOf p s) where
+  own_load : IsLoadBasis p s s
+  own_load = record {
+    same_stage = refl;
+    same_signs = refl;
+    state = st;
+    basis = basis;
+    keeps = record { nonbasic = λ j l n o. refl; waiting = λ j l n b. absurd (n b) };
+    wanted = λ j l b. inl b;
+  }
 
-    in_load : (c : Passed) → PassesIn (StateTerms p s) c → PassesIn (LoadTerms p s) c
-    in_load c = wider (StateTerms p s) (LoadTerms p s) c (λ row a. (s, own_load, a))
+  pub in_load : (c : Passed) → PassesIn (StateTerms p s) c → PassesIn (LoadTerms p s) c
+  in_load c = wider (StateTerms p s) (LoadTerms p s) c (λ row a. (s, own_load, a))
 
-    S : Stage
-    S = stage_of p s
+  S : Stage
+  S = stage_of p s
 
-    abbrev z : ℕ → ℚ
-    z = bound_at p s
+  abbrev z : ℕ → ℚ
+  z = bound_at p s
 
-    abbrev W : ℕ → ℕ → ℚ
-    W = inverse_column p s slots w ok listed_end inverse_end basis_end.independent
+  abbrev W : ℕ → ℕ → ℚ
+  W = inverse_column p s slots w ok listed inverse basis.independent
 
-    stands : (j : ℕ) → j < all_columns (layout_of p) → StandsAt (place_at s j) ((stage_of p s).lower j) ((stage_of p s).upper j) (bound_at p s j)
-    stands j l = of (basic_or_not (place_at s j))
-      where
-        of : (place_at s j ≡ Basic) ⊎ (place_at s j ≢ Basic) → StandsAt (place_at s j) ((stage_of p s).lower j) ((stage_of p s).upper j) (bound_at p s j)
-        of (inl b) = subst (λ a. StandsAt a ((stage_of p s).lower j) ((stage_of p s).upper j) (bound_at p s j)) (sym b) tt
-        of (inr n) = subst (StandsAt (place_at s j) ((stage_of p s).lower j) ((stage_of p s).upper j)) (value_off p s slots ok listed_end [] j n) (values_stand p s slots ok listed_end [] st j l)
+  stands : (j : ℕ) → j < all_columns (layout_of p) → StandsAt (place_at s j) ((stage_of p s).lower j) ((stage_of p s).upper j) (bound_at p s j)
+  stands j l = of (basic_or_not (place_at s j))
+    where
+      of : (place_at s j ≡ Basic) ⊎ (place_at s j ≢ Basic) → StandsAt (place_at s j) ((stage_of p s).lower j) ((stage_of p s).upper j) (bound_at p s j)
+      of (inl b) = subst (λ a. StandsAt a ((stage_of p s).lower j) ((stage_of p s).upper j) (bound_at p s j)) (sym b) tt
+      of (inr n) = subst (StandsAt (place_at s j) ((stage_of p s).lower j) ((stage_of p s).upper j)) (value_off p s slots ok listed [] j n) (values_stand p s slots ok listed [] st j l)
 
-    lack : ℕ → ℚ
-    lack r = (stage_of p s).right r +ℚ neg_ℚ (sum_ℚ (all_columns (layout_of p)) (λ q. bound_at p s q *ℚ (stage_of p s).entry q r))
+  lack : ℕ → ℚ
+  lack r = (stage_of p s).right r +ℚ neg_ℚ (sum_ℚ (all_columns (layout_of p)) (λ q. bound_at p s q *ℚ (stage_of p s).entry q r))
 
-    found : ℕ → ℚ
-    found j = bound_at p s j +ℚ sum_ℚ (rows_of p s) (λ r. lack r *ℚ W r j)
+  found : ℕ → ℚ
+  found j = bound_at p s j +ℚ sum_ℚ (rows_of p s) (λ r. lack r *ℚ W r j)
 
-    are_found : AreValuesOf p s found
-    unfolding found lack
-    are_found = values_by_inverse (stage_of p s) (place_at s) W (are_inverse p s slots w ok listed_end inverse_end basis_end.independent) (bound_at p s) stands
+  are_found : AreValuesOf p s found
+  unfolding found lack
+  are_found = values_by_inverse (stage_of p s) (place_at s) W (are_inverse p s slots w ok listed inverse basis.independent) (bound_at p s) stands
 
-    -- ---- the rests
-    idle : (j : ℕ) → (layout_of p).columns ≤ j → j < all_columns (layout_of p) → bound_at p s j ≡ zero_ℚ
-    idle j a l = of (column_cases (layout_of p) j l)
-      where
-        of : (j < (layout_of p).columns) ⊎ (((q : ℕ) × (j ≡ (layout_of p).columns + q) × (q < (layout_of p).sides)) ⊎ ((i : ℕ) × (j ≡ (layout_of p).columns + (layout_of p).sides + i) × (i < (layout_of p).nodes + (layout_of p).sides))) → bound_at p s j ≡ zero_ℚ
-        of (inl x) = absurd (omega arith)
-        of (inr (inl (q, e, x))) = ap (λ c. bound_number (place_at s j) (col_lower (layout_of p) c) (col_upper (layout_of p) c)) (ap (col_at (layout_of p)) e ∙ column_slack (layout_of p) q x) ∙ idle_bound (place_at s j)
-        of (inr (inr (i, e, x))) = ap (λ c. bound_number (place_at s j) (col_lower (layout_of p) c) (col_upper (layout_of p) c)) (ap (col_at (layout_of p)) e ∙ column_artificial (layout_of p) i) ∙ idle_bound (place_at s j)
+  -- ---- the rests
+  idle : (j : ℕ) → (layout_of p).columns ≤ j → j < all_columns (layout_of p) → bound_at p s j ≡ zero_ℚ
+  idle j a l = of (column_cases (layout_of p) j l)
+    where
+      of : (j < (layout_of p).columns) ⊎ (((q : ℕ) × (j ≡ (layout_of p).columns + q) × (q < (layout_of p).sides)) ⊎ ((i : ℕ) × (j ≡ (layout_of p).columns + (layout_of p).sides + i) × (i < (layout_of p).nodes + (layout_of p).sides))) → bound_at p s j ≡ zero_ℚ
+      of (inl x) = absurd (omega arith)
+      of (inr (inl (q, e, x))) = ap (λ c. bound_number (place_at s j) (col_lower (layout_of p) c) (col_upper (layout_of p) c)) (ap (col_at (layout_of p)) e ∙ column_slack (layout_of p) q x) ∙ idle_bound (place_at s j)
+      of (inr (inr (i, e, x))) = ap (λ c. bound_number (place_at s j) (col_lower (layout_of p) c) (col_upper (layout_of p) c)) (ap (col_at (layout_of p)) e ∙ column_artificial (layout_of p) i) ∙ idle_bound (place_at s j)
 
-    few_rows : rows_of p s ≤ length p.rows
-    few_rows = rows_within p s.stage ok.nodes_within
+  few_rows : rows_of p s ≤ length p.rows
+  few_rows = rows_within p s.stage ok.nodes_within
 
-    lack_is : (r : ℕ) → r < rows_of p s → lack r ≡ rest_at p (bound_at p s) r
-    unfolding lack
-    lack_is r l =
-        ap (λ x. (row p r).right +ℚ neg_ℚ x)
-        (row_parts (layout_of p) (layout_fits p ok) (is_negative s) (bound_at p s) r inside
-        ∙ (ap₂ (λ x y. given_sum (layout_of p) (bound_at p s) r +ℚ slack_sign ((layout_of p).kind r) *ℚ x +ℚ sign (is_negative s r) *ℚ y) (idle ((layout_of p).columns + (r - p.nodes)) (omega arith) (let i = inside in omega arith)) (idle ((layout_of p).columns + (layout_of p).sides + r) (omega arith) (let i = inside in omega arith))
-        ∙ ring (given_sum (layout_of p) (bound_at p s) r ∷ slack_sign ((layout_of p).kind r) ∷ sign (is_negative s r) ∷ []) (v 0 :+ v 1 :* nought :+ v 2 :* nought) (v 0) refl))
-      where
-        inside : r < (layout_of p).nodes + (layout_of p).sides
-        inside = let a = few_rows in let b = ok.nodes_within in omega arith
+  lack_is : (r : ℕ) → r < rows_of p s → lack r ≡ rest_at p (bound_at p s) r
+  unfolding lack
+  lack_is r l =
+      ap (λ x. (row p r).right +ℚ neg_ℚ x)
+      (row_parts (layout_of p) (layout_fits p ok) (is_negative s) (bound_at p s) r inside
+      ∙ (ap₂ (λ x y. given_sum (layout_of p) (bound_at p s) r +ℚ slack_sign ((layout_of p).kind r) *ℚ x +ℚ sign (is_negative s r) *ℚ y) (idle ((layout_of p).columns + (r - p.nodes)) (omega arith) (let i = inside in omega arith)) (idle ((layout_of p).columns + (layout_of p).sides + r) (omega arith) (let i = inside in omega arith))
+      ∙ ring (given_sum (layout_of p) (bound_at p s) r ∷ slack_sign ((layout_of p).kind r) ∷ sign (is_negative s r) ∷ []) (v 0 :+ v 1 :* nought :+ v 2 :* nought) (v 0) refl))
+    where
+      inside : r < (layout_of p).nodes + (layout_of p).sides
+      inside = let a = few_rows in let b = ok.nodes_within in omega arith
 
-    numbers : AreRestNumbers p s (bound_at p s)
-    numbers j l = bound_or_zero (IsRestNumber p s j) (place_at s j) ((stage_of p s).lower j) ((stage_of p s).upper j) (λ x b. at_bound x b) (zero_number p s found are_found j)
+  pub numbers : AreRestNumbers p s (bound_at p s)
+  numbers j l = bound_or_zero (IsRestNumber p s j) (place_at s j) ((stage_of p s).lower j) ((stage_of p s).upper j) (λ x b. at_bound x b) (zero_number p s found are_found j)
 
-    pub rest_arises : (i : ℕ) → i < rows_of p s → (c : Passed) → PassesIn (Is (rest_row p (bound_at p s) i)) c → PassesIn (LoadTerms p s) c
-    rest_arises i l c x = in_load c (wider (Is (rest_row p (bound_at p s) i)) (StateTerms p s) c (λ row e. subst (StateTerms p s) (sym e) (rest_term i (bound_at p s) l numbers)) x)
+  pub rests_arise : (c : Passed) → PassesIn (BoundTerms p s) c → PassesIn (LoadTerms p s) c
+  rests_arise c x = in_load c (wider (BoundTerms p s) (StateTerms p s) c (λ row (i, l, e). subst (StateTerms p s) (sym e) (rest_term i (bound_at p s) l numbers)) x)
 
-    module _ (rests : List ℚ) (are_rests : (i : ℕ) → i < rows_of p s → at rests i ≡ rest_at p (bound_at p s) i) where
-      pub values_arise : (c : Passed) → PassesIn (EntryTerms w (at rests)) c → PassesIn (LoadTerms p s) c
-      values_arise c x = in_load c (entries_arise p s slots w ok listed_end inverse_end basis_end.independent (at rests) c (λ r l. rest_factor (at rests r) (bound_at p s) numbers (are_rests r l)) x)
+  module _ (rests : List ℚ) (are_rests : (i : ℕ) → i < rows_of p s → at rests i ≡ rest_at p (bound_at p s) i) where
+    pub values_arise : (c : Passed) → PassesIn (EntryTerms w (at rests)) c → PassesIn (LoadTerms p s) c
+    values_arise c x = in_load c (entries_arise p s slots w ok listed inverse basis.independent (at rests) c (λ r l. rest_factor (at rests r) (bound_at p s) numbers (are_rests r l)) x)
 
-      pub parts_end : (xs : List ℚ) → length xs ≡ rows_of p s → AreProducts w (at rests) xs → HasParts p s slots w xs
-      unfolding spread found
-      parts_end xs size products = record {
-        basis = basis_end;
-        listed = listed_end;
-        inverse = inverse_end;
+    pub parts_end : (xs : List ℚ) → length xs ≡ rows_of p s → AreProducts w (at rests) xs → HasParts p s slots w xs
+    unfolding spread found
+    parts_end xs size products = record {
+      basics = record {
+        basis = basis;
+        listed = listed;
         value_each = size;
         values = values_by_one p s found (spread_values p s slots xs) (λ j l. ap (λ x. bound_at p s j +ℚ x) (inner j l (basic_or_not (place_at s j)))) are_found;
-      }
-        where
-          inner : (j : ℕ) → j < all_columns (layout_of p) → (place_at s j ≡ Basic) ⊎ (place_at s j ≢ Basic) → sum_ℚ (rows_of p s) (λ k. delta (slot_number p slots k) j *ℚ at xs k) ≡ sum_ℚ (rows_of p s) (λ r. lack r *ℚ W r j)
-          inner j l (inr n) = spread_off (rows_of p s) (all_columns (layout_of p)) (place_at s) (slot_number p slots) (slots_are p s slots ok listed_end) (at xs) j n
-              ∙ sym (sum_zero (rows_of p s) _ (λ r m. ap (λ x. lack r *ℚ x) ((are_inverse p s slots w ok listed_end inverse_end basis_end.independent r m).of_basics j l n) ∙ mul-zero (lack r)))
-          inner j l (inl b) = let (k, m, e) = listed_end.every j l b in subst (λ i. sum_ℚ (rows_of p s) (λ k. delta (slot_number p slots k) i *ℚ at xs k) ≡ sum_ℚ (rows_of p s) (λ r. lack r *ℚ W r i)) e
-              (spread_at (rows_of p s) (all_columns (layout_of p)) (place_at s) (slot_number p slots) (slots_are p s slots ok listed_end) (at xs) k m
-              ∙ (products k (subst (λ n. k < n) (sym inverse_end.size) m)
-              ∙ (ap (λ n. sum_ℚ n (λ i. weight w k i *ℚ at rests i)) inverse_end.size
-              ∙ sum_ext (rows_of p s) _ _ (λ i x. mul_comm (weight w k i) (at rests i) ∙ ap₂ (λ a b. a *ℚ b) (are_rests i x ∙ sym (lack_is i x)) (sym (inverse_at p s slots w ok listed_end inverse_end basis_end.independent i k m))))))
+      };
+      inverse = inverse;
+    }
+      where
+        inner : (j : ℕ) → j < all_columns (layout_of p) → (place_at s j ≡ Basic) ⊎ (place_at s j ≢ Basic) → sum_ℚ (rows_of p s) (λ k. delta (slot_number p slots k) j *ℚ at xs k) ≡ sum_ℚ (rows_of p s) (λ r. lack r *ℚ W r j)
+        inner j l (inr n) = spread_off (rows_of p s) (all_columns (layout_of p)) (place_at s) (slot_number p slots) (slots_are p s slots ok listed) (at xs) j n
+            ∙ sym (sum_zero (rows_of p s) _ (λ r m. ap (λ x. lack r *ℚ x) ((are_inverse p s slots w ok listed inverse basis.independent r m).of_basics j l n) ∙ mul-zero (lack r)))
+        inner j l (inl b) = let (k, m, e) = listed.every j l b in subst (λ i. sum_ℚ (rows_of p s) (λ k. delta (slot_number p slots k) i *ℚ at xs k) ≡ sum_ℚ (rows_of p s) (λ r. lack r *ℚ W r i)) e
+            (spread_at (rows_of p s) (all_columns (layout_of p)) (place_at s) (slot_number p slots) (slots_are p s slots ok listed) (at xs) k m
+            ∙ (products k (subst (λ n. k < n) (sym inverse.size) m)
+            ∙ (ap (λ n. sum_ℚ n (λ i. weight w k i *ℚ at rests i)) inverse.size
+            ∙ sum_ext (rows_of p s) _ _ (λ i x. mul_comm (weight w k i) (at rests i) ∙ ap₂ (λ a b. a *ℚ b) (are_rests i x ∙ sym (lack_is i x)) (sym (inverse_at p s slots w ok listed inverse basis.independent i k m))))))

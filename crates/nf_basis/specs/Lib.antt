@@ -1,12 +1,14 @@
 pub mod Names
 pub mod Kept
-pub mod Lowest
+pub mod Resting
 pub mod Inside
 pub mod Numbers
 pub mod Arising
 pub mod Products
+pub mod Duals
 pub mod Dense
 pub mod Loading
 pub mod Restoring
 pub mod Rests
 pub mod Starting
+pub mod AtBounds

@@ -12,9 +12,10 @@ ghost use Rattle.nf_simplex.specs.Columns.{col_lower, col_upper};
 ghost use Rattle.nf_simplex.specs.Columns as columns;
 ghost use Rattle.nf_simplex.specs.Numbers.{StandsAt};
 ghost use Rattle.nf_simplex.specs.Standing.{costs_of, rows_of, stage_of};
+ghost use Rattle.nf_simplex.specs.Starts as starts;
 ghost use Rattle.nf_basis.specs.Names.{col_of, phase_of, place_of};
 ghost use Rattle.nf_basis.specs.Products.{AreProducts};
-ghost use Rattle.nf_basis.specs.Kept.{IsBoundOf, IsPresent, IsStateOf, number};
+ghost use Rattle.nf_basis.specs.Kept.{IsBoundOf, IsPresent, IsStateOf, MayRest, number};
 
 use crate::col::{Col, Phase, Place};
 use crate::state::State;
@@ -22,6 +23,16 @@ use nf_frac::{Frac, Passed, Steps};
 use nf_inverse::Inverse;
 use nf_prob::{Entry, Problem, RowKind};
 use std::sync::ledger::Ledger;
+
+/// A bound as a number: 0 if there is none.
+pub fn or_zero(bound: Option<Frac>) -> Frac
+    ensures { result ≡ starts.or_zero bound }
+{
+    match bound {
+        Some(bound) => bound,
+        None => Frac::zero(),
+    }
+}
 
 /// The number at which a column stands at a bound.
 pub fn bound(p: &Problem, state: &State, col: Col, place: Place) -> Frac
@@ -34,12 +45,22 @@ pub fn bound(p: &Problem, state: &State, col: Col, place: Place) -> Frac
         return Frac::zero();
     };
     if place == Place::Lower {
-        return p.lower(j);
+        return or_zero(p.lower(j));
     }
-    match p.upper(j) {
-        Some(upper) => upper,
-        None => Frac::zero(),
+    or_zero(p.upper(j))
+}
+
+/// The number of a column in a place where it is not basic: a bound that it has, or 0 if it has neither.
+pub fn resting_number(p: &Problem, state: &State, col: Col, place: Place) -> Frac
+    requires state { IsStateOf p.now state.now }
+    requires present { IsPresent p.now state.now.standing col }
+    requires place { MayRest p.now col (place_of place) }
+    ensures { StandsAt (place_of place) (col_lower (layout_of p.now) (col_of col)) (col_upper (layout_of p.now) (col_of col)) result }
+{
+    if place == Place::Zero {
+        return Frac::zero();
     }
+    bound(p, state, col, place)
 }
 
 /// The cost of a column in a phase.
@@ -85,8 +106,8 @@ pub(crate) fn weights_of<L: Ledger>(
     }
 }
 
-// The entry of a slack in a row of this kind.
-fn slack_sign(kind: RowKind) -> Frac
+/// The entry of a slack in a row of this kind.
+pub(crate) fn slack_sign(kind: RowKind) -> Frac
     ensures { result ≡ columns.slack_sign kind }
 {
     match kind {
@@ -96,8 +117,8 @@ fn slack_sign(kind: RowKind) -> Frac
     }
 }
 
-// The entry of an artificial.
-fn sign(negative: bool) -> Frac
+/// The entry of an artificial.
+pub(crate) fn sign(negative: bool) -> Frac
     ensures { result ≡ columns.sign negative }
 {
     let one = Frac::from_whole(1);
@@ -128,8 +149,8 @@ fn unit_weights<L: Ledger>(
     Ok(())
 }
 
-// How many entries, which stand by row number, are in the first rows.
-fn count_within(entries: &[Entry], rows: usize) -> usize
+/// How many entries, which stand by row number, are in the first rows.
+pub(crate) fn count_within(entries: &[Entry], rows: usize) -> usize
     ensures most { result ≤ length entries.now }
     ensures within { (k : ℕ) → k < result → (stored_entry entries.now k).row ≤ rows }
     ensures next { result < length entries.now → rows < (stored_entry entries.now result).row }

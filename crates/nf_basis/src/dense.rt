@@ -1,15 +1,15 @@
 //! The plain basis: the whole inverse of the basic columns.
-ghost use Rattle.std.specs.Prelude.{◌≡◌, ℕ, ◌<◌, length};
+ghost use Rattle.std.specs.Prelude.{◌≡◌, ℕ, ◌<◌, length, slice_index_or, IfOk};
 ghost use Rattle.nf_model.specs.Program.{LinearProgram, at};
-ghost use Rattle.nf_simplex.specs.Standing.{costs_of, rows_of};
-ghost use Rattle.nf_basis.specs.Names.{phase_of};
-ghost use Rattle.nf_basis.specs.Kept.{IsPresent, IsStateOf};
+ghost use Rattle.nf_basis.specs.Kept.{IsStateOf};
 ghost use Rattle.nf_basis.specs.Dense.{HasParts, HoldsNumbers};
-ghost use Rattle.nf_basis.specs.Numbers.{in_slot, slot_number};
+ghost use Rattle.nf_basis.specs.Numbers.{AreSlotsBelow, in_slot};
+ghost use Rattle.nf_inverse.specs.Weights.{weight};
 
 use crate::basis::{Basis, RestoreFault};
 use crate::col::{Col, Phase, Place};
-use crate::columns::{bound, cost, weights_of};
+use crate::columns::{bound, weights_of};
+use crate::duals::Duals;
 use crate::moves::{exchange, other_bound, shift};
 use crate::restore::{Load, load_basis};
 use crate::slots::slot_of;
@@ -17,7 +17,7 @@ use crate::state::State;
 use nf_frac::{Frac, Passed, Steps};
 use nf_inverse::Inverse;
 use nf_prob::Problem;
-use std::alloc::Global;
+use std::alloc::{AllocError, Global};
 use std::sync::ledger::Ledger;
 
 /// A basis with the whole inverse of its basic columns, for at most 1,000 rows: the product form (G. B. Dantzig and
@@ -29,7 +29,11 @@ pub struct DenseBasis {
     // Of the basic columns, by slot.
     values: Vec<Frac>,
     inverse: Inverse,
+    // Room for a column.
     work: Vec<Frac>,
+    // The duals of phase one, and of phase two.
+    one: Duals,
+    two: Duals,
 }
 
 /// The value of a column that stands in a slot.
@@ -43,26 +47,41 @@ pub fn value_in_slot(slots: &[Col], values: &[Frac], col: Col) -> Frac
     }
 }
 
+// The weights of chosen slots at a row.
+fn weights_at(inverse: &Inverse, row: usize, chosen: &[u32], out: &mut [Frac])
+    requires row { row < length inverse.now }
+    requires chosen { AreSlotsBelow (length inverse.now) chosen.now }
+    requires places { length out.old ≡ length chosen.now }
+    ensures { (k : ℕ) → k < length chosen.now → at out.new k ≡ weight inverse.now (slice_index_or chosen.now k 0) row }
+{
+    for k in 0..chosen.len() {
+        out[k] = inverse.weight(chosen[k] as usize, row);
+    }
+}
+
 impl DenseBasis {
     /// The basis of a state with these columns in its slots, the inverse of these columns and their values by slot.
-    /// `work` is room for a column.
+    /// `AllocError` where there is no memory for a column and the duals of both phases.
     pub fn of_parts(
+        alloc: Global,
         state: State,
         slots: Vec<Col>,
         inverse: Inverse,
         values: Vec<Frac>,
-        work: Vec<Frac>,
-    ) -> DenseBasis
-        ensures numbers { (p : LinearProgram) → IsStateOf p state → HasParts p state.standing slots.items inverse values.items → length work.items ≡ rows_of p state.standing → HoldsNumbers p result }
-        ensures standing { result.state.standing ≡ state.standing }
+    ) -> Result<DenseBasis, AllocError>
+        ensures numbers { (p : LinearProgram) → IsStateOf p state → HasParts p state.standing slots.items inverse values.items → IfOk result (HoldsNumbers p) }
+        ensures standing { IfOk result (λ b. b.state.standing ≡ state.standing) }
     {
-        DenseBasis {
+        let rows = values.len();
+        Ok(DenseBasis {
             state,
             slots,
             values,
             inverse,
-            work,
-        }
+            work: vec![in alloc; Frac::zero(); rows]?,
+            one: Duals::unknown(alloc, rows)?,
+            two: Duals::unknown(alloc, rows)?,
+        })
     }
 }
 
@@ -84,7 +103,7 @@ impl Basis for DenseBasis {
 
     ghost unit = { dense_unit };
 
-    ghost sound = { λ p b h. record { problem = h.state.problem; state = h.state.fits; basis = h.parts.basis; listed = h.parts.listed; values = h.parts.values } };
+    ghost sound = { λ p b h. record { problem = h.state.problem; state = h.state.fits; basis = h.parts.basics.basis; listed = h.parts.basics.listed; values = h.parts.basics.values } };
 
     fn restore<L: Ledger>(
         alloc: Global,
@@ -97,9 +116,10 @@ impl Basis for DenseBasis {
             slots,
             taken: _,
             inverse,
-            work,
+            work: _,
         } = load;
-        Ok(DenseBasis::of_parts(state, slots, inverse, values, work))
+        let basis = DenseBasis::of_parts(alloc, state, slots, inverse, values)?;
+        Ok(basis)
     }
 
     fn state(&self) -> &State {
@@ -114,6 +134,7 @@ impl Basis for DenseBasis {
         match self.state.place(col) {
             Place::Lower => bound(p, &self.state, col, Place::Lower),
             Place::Upper => bound(p, &self.state, col, Place::Upper),
+            Place::Zero => Frac::zero(),
             Place::Basic => value_in_slot(self.slots.as_slice(), self.values.as_slice(), col),
             // No present column is absent.
             Place::Absent => Frac::zero(),
@@ -139,14 +160,14 @@ impl Basis for DenseBasis {
         steps: &mut Steps<L>,
     ) -> Result<(), Passed> {
         let (state, slots) = (&self.state, self.slots.as_slice());
-        let costs = |slot: usize| -> Frac
-            requires within { slot < length slots.now }
-            requires state { IsStateOf p.now state.now }
-            requires present { IsPresent p.now state.now.standing (in_slot slots.now slot) }
-            ensures { result ≡ costs_of p.entry.now (phase_of phase) (slot_number p.entry.now slots.entry.now slot) }
-        { cost(p, state, slots[slot], phase) };
-        self.inverse.duals(costs, out, steps)?;
-        Ok(())
+        match phase {
+            Phase::One => self
+                .one
+                .read(p, state, slots, &self.inverse, Phase::One, out, steps),
+            Phase::Two => self
+                .two
+                .read(p, state, slots, &self.inverse, Phase::Two, out, steps),
+        }
     }
 
     fn inverse_column<L: Ledger>(
@@ -157,6 +178,18 @@ impl Basis for DenseBasis {
         steps: &mut Steps<L>,
     ) -> Result<(), Passed> {
         self.inverse.inverse_column(row as usize - 1, out);
+        Ok(())
+    }
+
+    fn inverse_weights<L: Ledger>(
+        &mut self,
+        p: &Problem,
+        row: u32,
+        chosen: &[u32],
+        out: &mut [Frac],
+        steps: &mut Steps<L>,
+    ) -> Result<(), Passed> {
+        weights_at(&self.inverse, row as usize - 1, chosen, out);
         Ok(())
     }
 
@@ -181,6 +214,11 @@ impl Basis for DenseBasis {
             to,
             steps,
         )?;
+        let weights = self.inverse.row(at);
+        self.one
+            .pivot(p, &self.state, entering, Phase::One, weights, steps)?;
+        self.two
+            .pivot(p, &self.state, entering, Phase::Two, weights, steps)?;
         let leaving = self.slots[at];
         self.state.set_place(p, entering, Place::Basic);
         self.state.set_place(p, leaving, to);

@@ -1,5 +1,6 @@
 //! What a pivot and a flip do to the numbers of a dense basis.
 ghost use Rattle.std.specs.Prelude.{◌≡◌, ◌≢◌, ◌+◌, ◌*◌, ◌<◌, ◌≤◌, length, set, IfOk, IfErr};
+ghost use Rattle.nf_inverse.specs.Weights as inverses;
 ghost use Rattle.nf_sums.specs.Terms.{PassesIn};
 ghost use Rattle.nf_simplex.specs.Changes as changes;
 ghost use Rattle.nf_simplex.specs.Place as model;
@@ -9,9 +10,10 @@ ghost use Rattle.nf_basis.specs.Kept.{CanFlip, IsBoundOf, IsNonbasic, IsStateOf}
 ghost use Rattle.nf_basis.specs.Numbers.{HasEntryAt, in_slot};
 ghost use Rattle.nf_basis.specs.Arising.{StateTerms};
 ghost use Rattle.nf_basis.specs.Dense.{HasParts};
+ghost use Rattle.nf_basis.specs.Duals.{IsPivotRow};
 
 use crate::col::{Col, Place};
-use crate::columns::{bound, weights_of};
+use crate::columns::{bound, resting_number, weights_of};
 use crate::slots::column_in;
 use crate::state::State;
 use nf_frac::{Frac, Passed, Steps};
@@ -26,6 +28,7 @@ pub fn other_bound(place: Place) -> Place
     match place {
         Place::Lower => Place::Upper,
         Place::Upper => Place::Lower,
+        Place::Zero => Place::Zero,
         Place::Basic => Place::Basic,
         Place::Absent => Place::Absent,
     }
@@ -53,11 +56,12 @@ pub(crate) fn exchange<L: Ledger>(
     requires entry { HasEntryAt p.now state.now.standing slots.now entering slot }
     requires bound { IsBoundOf p.now (in_slot slots.now slot) (place_of to) }
     ensures parts { IfOk result (λ _. HasParts p.now (changes.exchanged p.now state.now.standing (col_of entering) (col_of (in_slot slots.now slot)) (place_of to)) (set slots.now slot entering) inverse.new values.new) }
+    ensures row { IfOk result (λ _. IsPivotRow p.now state.now.standing entering (in_slot slots.now slot) (place_of to) (inverses.weights_of inverse.new slot)) }
     ensures passed { IfErr result (PassesIn (StateTerms p.now state.now.standing)) }
     ensures cost { steps.new ≤ steps.old + (length slots.now * (4 * length slots.now) + (3 * length slots.now + 3)) }
 {
     let place = state.place(entering);
-    let from = bound(p, state, entering, place);
+    let from = resting_number(p, state, entering, place);
     let leaving = column_in(slots, slot);
     let until = bound(p, state, leaving, to);
     weights_of(inverse, p, state, entering, work, steps)?;
@@ -73,6 +77,7 @@ pub fn goes_down(place: Place) -> bool
     match place {
         Place::Upper => true,
         Place::Lower => false,
+        Place::Zero => false,
         Place::Basic => false,
         Place::Absent => false,
     }

@@ -8,19 +8,18 @@ ghost use Rattle.nf_simplex.specs.Layout.{layout_of};
 ghost use Rattle.nf_simplex.specs.Columns.{all_columns, col_at};
 ghost use Rattle.nf_simplex.specs.Place as model;
 ghost use Rattle.nf_simplex.specs.Place.{count_basic};
-ghost use Rattle.nf_simplex.specs.Standing.{is_negative, place_at, rows_of};
+ghost use Rattle.nf_simplex.specs.Standing.{IsBasisOf, is_negative, place_at, rows_of};
 ghost use Rattle.nf_basis.specs.Names.{col_of, named};
 ghost use Rattle.nf_basis.specs.Kept.{IsPresent, IsStateOf, number};
-ghost use Rattle.nf_basis.specs.Arising.{rest_at};
 ghost use Rattle.nf_basis.specs.Dense.{HasParts, bound_at};
 ghost use Rattle.nf_basis.specs.Loading.{AreArtificials, HasTaken, ListsBelow, is_taken};
 ghost use Rattle.nf_basis.specs.Products.{AreProducts};
 ghost use Rattle.nf_basis.specs.Restoring.{IsFaultOf};
 
+use crate::at_bounds::rests_at_bounds;
 use crate::basis::RestoreFault;
 use crate::col::{Col, Place};
-use crate::columns::weights_of;
-use crate::row_rest::rest;
+use crate::columns::{or_zero, weights_of};
 use crate::slots::slot_of;
 use crate::state::State;
 use crate::weights::Weights;
@@ -55,12 +54,12 @@ impl From<Passed> for RestoreFault {
 
 /// A basis on the way from the artificials to a state's basic columns.
 #[derive(Drop)]
-pub struct Load {
-    pub slots: Vec<Col>,
+pub(crate) struct Load {
+    pub(crate) slots: Vec<Col>,
     // Whether a slot has a wanted column.
-    pub taken: Vec<bool>,
-    pub inverse: Inverse,
-    pub work: Vec<Frac>,
+    pub(crate) taken: Vec<bool>,
+    pub(crate) inverse: Inverse,
+    pub(crate) work: Vec<Frac>,
 }
 
 // The column with a number, from 0.
@@ -81,7 +80,7 @@ fn column_at(p: &Problem, at: usize) -> Col
 }
 
 /// How many rows the stage of a state has.
-pub fn stage_rows(p: &Problem, state: &State) -> u32
+pub(crate) fn stage_rows(p: &Problem, state: &State) -> u32
     ensures rows { result ≡ rows_of p.now state.now.standing }
     ensures few { result ≤ 2 ^ 30 }
 {
@@ -280,34 +279,6 @@ impl Load {
         Ok(())
     }
 
-    // The rests of the stage's rows, where each nonbasic column stands at its bound.
-    fn rests<L: Ledger>(
-        &self,
-        alloc: Global,
-        p: &Problem,
-        state: &State,
-        steps: &mut Steps<L>,
-    ) -> Result<Vec<Frac>, RestoreFault>
-        requires state { IsStateOf p.now state.now }
-        requires taken { HasTaken p.now state.now.standing (all_columns (layout_of p.now)) self.now }
-        requires as_many { count_basic (all_columns (layout_of p.now)) (place_at state.now.standing) ≡ rows_of p.now state.now.standing }
-        ensures size { IfOk result (λ v. length v.items ≡ rows_of p.now state.now.standing) }
-        ensures value { IfOk result (λ v. (i : ℕ) → i < rows_of p.now state.now.standing → at v.items i ≡ rest_at p.now (bound_at p.now state.now.standing) i) }
-        ensures fault { IfErr result (IsFaultOf p.now state.now.standing) }
-    {
-        let number = |j: u32| -> Frac
-            requires state { IsStateOf p.now state.now }
-            requires column { IsNumber j (length p.now.columns) }
-            ensures { result ≡ bound_at p.entry.now state.entry.now.standing (j - 1) }
-        { number_at(p, state, j) };
-        let rows = stage_rows(p, state);
-        let mut rests = vec![in alloc; Frac::zero(); rows as usize]?;
-        for row in 0..rows {
-            rests[row as usize] = rest(p, row + 1, number, steps)?;
-        }
-        Ok(rests)
-    }
-
     // The values of the basic columns by slot, once all are taken.
     fn values<L: Ledger>(
         &self,
@@ -322,7 +293,8 @@ impl Load {
         ensures parts { IfOk result (λ v. HasParts p.now state.now.standing self.now.slots.items self.now.inverse v.items) }
         ensures fault { IfErr result (IsFaultOf p.now state.now.standing) }
     {
-        let rests = self.rests(alloc, p, state, steps)?;
+        let mut rests = vec![in alloc; Frac::zero(); self.inverse.size()]?;
+        rests_at_bounds(p, state, &mut rests, steps)?;
         let known = rests.as_slice();
         let mut values = vec![in alloc; Frac::zero(); self.inverse.size()]?;
         let entry = |row: usize| -> (usize, Frac)
@@ -336,18 +308,15 @@ impl Load {
 }
 
 /// The number at which a given column stands, and 0 where it is basic or absent.
-pub fn number_at(p: &Problem, state: &State, j: u32) -> Frac
+pub(crate) fn number_at(p: &Problem, state: &State, j: u32) -> Frac
     requires state { IsStateOf p.now state.now }
     requires column { IsNumber j (length p.now.columns) }
     ensures { result ≡ bound_at p.now state.now.standing (j - 1) }
 {
     match state.place(Col::Given(j)) {
-        Place::Lower => p.lower(j),
-        Place::Upper => match p.upper(j) {
-            Some(upper) => upper,
-            None => Frac::zero(),
-        },
-        Place::Basic | Place::Absent => Frac::zero(),
+        Place::Lower => or_zero(p.lower(j)),
+        Place::Upper => or_zero(p.upper(j)),
+        Place::Zero | Place::Basic | Place::Absent => Frac::zero(),
     }
 }
 
@@ -356,7 +325,7 @@ pub fn number_at(p: &Problem, state: &State, j: u32) -> Frac
 ///
 /// `Dependent` exactly where the basic columns are dependent; `Passed` only at an operation of one of the bases that are
 /// made of wanted basic columns and artificials.
-pub fn load_basis<L: Ledger>(
+pub(crate) fn load_basis<L: Ledger>(
     alloc: Global,
     p: &Problem,
     state: &State,
@@ -372,4 +341,22 @@ pub fn load_basis<L: Ledger>(
     load.take_all(alloc, p, state, steps)?;
     let values = load.values(alloc, p, state, steps)?;
     Ok((load, values))
+}
+
+/// Why a state that is no basis gives none: what its load by exchanges returns.
+pub fn refusal<L: Ledger>(
+    alloc: Global,
+    p: &Problem,
+    state: &State,
+    steps: &mut Steps<L>,
+) -> RestoreFault
+    requires state { IsStateOf p.now state.now }
+    requires as_many { count_basic (all_columns (layout_of p.now)) (place_at state.now.standing) ≡ rows_of p.now state.now.standing }
+    requires none { IsBasisOf p.now state.now.standing → ⊥ }
+    ensures fault { IsFaultOf p.now state.now.standing result }
+{
+    match load_basis(alloc, p, state, steps) {
+        Ok(_) => unreachable!(),
+        Err(fault) => fault,
+    }
 }

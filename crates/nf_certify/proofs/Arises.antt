@@ -22,7 +22,6 @@ use Rattle.nf_prob.specs.Arising.FarkasTerms.{combination as farkas_combination,
 use Rattle.nf_prob.specs.Arising.RayTerms.{rest as ray_rest, ray_row, rate as ray_rate}
 use Rattle.nf_prob.specs.Highest.{bound_or_zero, highest, highest_at}
 use Rattle.nf_prob.proofs.Highest.{highest-positive, highest-negative, highest-zero}
-use Rattle.nf_simplex.specs.Place.{goes_down}
 use Rattle.nf_simplex.specs.Columns.{Col, all_columns, number_of, col_lower, col_upper, cost_one, cost_two, entry_of, ones, twos}
 use Rattle.nf_simplex.specs.Layout.{Layout, layout_of}
 use Rattle.nf_simplex.specs.Lists.{padded}
@@ -42,7 +41,6 @@ use Rattle.nf_simplex.proofs.Values.{all_rows}
 use Rattle.nf_basis.specs.Arising.{StateTerms, count_columns, ArePrinted, AreStanding, IsBoundAt, IsRay, rest_row}
 use Rattle.nf_basis.specs.Arising.ArePricing.{of_phase, of_print}
 use Rattle.nf_basis.specs.Arising.StateTerms.{standing_rest as state_rest, reduced_cost as state_reduced_cost, cost as state_cost, gap as state_gap, ray_row as state_ray_row, rate as state_rate}
-use Rattle.nf_basis.specs.Kept.{place_in}
 use Rattle.nf_basis.specs.Names.{col_of}
 use Rattle.nf_duals.proofs.Trailing.{sum_cut, trailing}
 use Rattle.nf_certify.specs.declared.ended.Ended.TheVariants.{Best, NoFlow, NoBound}
@@ -256,4 +254,4 @@ checks_arise p s NoFlow (cert.Farkas ys) c ok f h is = by_row (FarkasTerms p ys)
 checks_arise p s NoFlow (cert.Ray xs rs) c ok f h is = absurd is
 checks_arise p s (NoBound k) (cert.Best xs ys) c ok f h is = absurd is
 checks_arise p s (NoBound k) (cert.Farkas ys) c ok f h is = absurd is
-checks_arise p s (NoBound k) (cert.Ray xs rs) c ok f h is = by_row (RayTerms p xs rs) (StateTerms p s) c (λ t w a. ray_terms p s ok f (col_of k) h.0.1 (goes_down (place_in p s k)) xs rs is.0 is.1 t c w a)
+checks_arise p s (NoBound k) (cert.Ray xs rs) c ok f h is = by_row (RayTerms p xs rs) (StateTerms p s) c (λ t w a. ray_terms p s ok f (col_of k) h.0.1 is.1.0 xs rs is.0 is.1.2 t c w a)

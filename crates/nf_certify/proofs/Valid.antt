@@ -4,10 +4,8 @@ use Rattle.nf_model.specs.Problem.{IsProblem}
 use Rattle.nf_prob.specs.declared.cert.Cert.{Cert}
 use Rattle.nf_prob.specs.declared.cert.Cert.TheVariants as cert
 use Rattle.nf_prob.specs.Verdict.{HasLengths}
-use Rattle.nf_simplex.specs.Place.{goes_down}
 use Rattle.nf_simplex.specs.Standing.{Standing, IsFeasibleState}
 use Rattle.nf_simplex.proofs.Verdicts.{infeasible_verdict, optimal_verdict, unbounded_verdict}
-use Rattle.nf_basis.specs.Kept.{place_in}
 use Rattle.nf_basis.specs.Names.{col_of}
 use Rattle.nf_certify.specs.declared.ended.Ended.{Ended}
 use Rattle.nf_certify.specs.declared.ended.Ended.TheVariants.{Best, NoFlow, NoBound}
@@ -22,7 +20,7 @@ certificate_valid p s NoFlow (cert.Farkas duals) ok f h is = (infeasible_verdict
 certificate_valid p s NoFlow (cert.Ray values ray) ok f h is = absurd is
 certificate_valid p s (NoBound c) (cert.Best values duals) ok f h is = absurd is
 certificate_valid p s (NoBound c) (cert.Farkas duals) ok f h is = absurd is
-certificate_valid p s (NoBound c) (cert.Ray values ray) ok f h is = (unbounded_verdict p s (col_of c) (goes_down (place_in p s c)) ok f h.2 h.1 values ray is.0 is.1).0
+certificate_valid p s (NoBound c) (cert.Ray values ray) ok f h is = (unbounded_verdict p s (col_of c) is.1.0 ok f h.2 is.1.1 values ray is.0 is.1.2).0
 
 pub valid_lengths : (p : LinearProgram) (c : Cert) → IsValid p c → HasLengths p c
 valid_lengths p (cert.Best values duals) v = (v.feasible.within.one_each, v.one_each)

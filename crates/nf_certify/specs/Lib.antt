@@ -1,3 +1,4 @@
 pub mod Certificates
 pub mod Moving
+pub mod Deciding
 pub mod Laws

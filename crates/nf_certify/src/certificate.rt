@@ -1,15 +1,14 @@
 //! The certificate of a state that has ended.
 ghost use Rattle.std.specs.Prelude.{◌≡◌, length, IfOk, IfErr};
-ghost use Rattle.nf_simplex.specs.Layout.{layout_of};
-ghost use Rattle.nf_simplex.specs.StageOf.{IsLast};
 ghost use Rattle.nf_simplex.specs.Standing.{IsFeasibleState};
 ghost use Rattle.nf_prob.specs.Verdict.{HasLengths};
 ghost use Rattle.nf_basis.specs.Kept.{IsNonbasic};
 ghost use Rattle.nf_certify.specs.Certificates.{HasEndedSo, IsCertOf, IsCertFault, IsValid};
 
+use crate::deciding::moves_down;
 use crate::ended::{CertOfFault, Ended};
 use crate::lists::{by_row, given_values};
-use crate::ray::{moves, moves_down, stage_rows};
+use crate::ray::{moves, stage_rows};
 use nf_basis::{Basis, Col, Phase};
 use nf_duals::printed_duals;
 use nf_frac::{Frac, Steps};
@@ -22,7 +21,7 @@ use std::sync::ledger::Ledger;
 ///
 /// `Best`: the values of the given columns and the printed duals. `NoFlow`: the duals of phase one, and 0 for each row
 /// that the stage lacks. `NoBound`: the values and the ray, which is what the given columns do while the picked one
-/// moves by 1 from its bound. The certificate is valid, so `verify` never says No to it.
+/// moves by 1, up or down, as it lowers the cost. The certificate is valid, so `verify` never says No to it.
 ///
 /// `Passed` only where an operation passes 128 bits that arises from the state; the basis is not used again. `NoMemory`
 /// where there is no memory for the lists.
@@ -127,7 +126,7 @@ fn combination<B: Basis, L: Ledger>(
     Ok(Cert::Farkas { duals })
 }
 
-// The values of the given columns, and what they do while this column moves from its bound.
+// The values of the given columns, and what they do while this column moves as it lowers the cost.
 fn direction<B: Basis, L: Ledger>(
     alloc: Global,
     p: &Problem,
@@ -136,7 +135,7 @@ fn direction<B: Basis, L: Ledger>(
     steps: &mut Steps<L>,
 ) -> Result<Cert, CertOfFault>
     requires numbers { B.HasNumbers p.now basis.old }
-    requires last { IsLast (layout_of p.now) (B.standing basis.old).stage }
+    requires ended { HasEndedSo p.now (B.standing basis.old) (Ended.NoBound column) }
     requires nonbasic { IsNonbasic p.now (B.standing basis.old) column }
     ensures numbers { IfOk result (λ _. B.HasNumbers p.now basis.new) }
     ensures standing { IfOk result (λ _. B.standing basis.new ≡ B.standing basis.old) }
@@ -146,10 +145,10 @@ fn direction<B: Basis, L: Ledger>(
     ensures fault { IfErr result (IsCertFault p.now (B.standing basis.old)) }
 {
     let values = given_values(alloc, p, basis)?;
-    let down = moves_down(basis.state().place(column));
     let rows = stage_rows(p, basis.state()) as usize;
-    let mut entries = vec![in alloc; Frac::zero(); rows]?;
-    basis.column(p, column, entries.as_mut_slice(), steps)?;
-    let ray = moves(alloc, p, basis, column, down, entries.as_slice())?;
+    let mut work = vec![in alloc; Frac::zero(); rows]?;
+    let down = moves_down(p, basis, column, work.as_mut_slice(), steps)?;
+    basis.column(p, column, work.as_mut_slice(), steps)?;
+    let ray = moves(alloc, p, basis, column, down, work.as_slice())?;
     Ok(Cert::Ray { values, ray })
 }

@@ -2,6 +2,7 @@
 #![tactic(auto)]
 
 mod certificate;
+mod deciding;
 mod ended;
 mod law;
 mod lists;

@@ -2,17 +2,16 @@
 ghost use Rattle.std.specs.Prelude.{◌≡◌, ◌≢◌, ◌<◌, ◌≤◌, ℕ, length, IfOk};
 ghost use Rattle.nf_num.specs.Rational.{neg_ℚ, zero_ℚ};
 ghost use Rattle.nf_model.specs.Program.{at};
-ghost use Rattle.nf_simplex.specs.Place.{goes_down};
 ghost use Rattle.nf_simplex.specs.Standing.{Standing, rows_of};
 ghost use Rattle.nf_simplex.specs.Step.{signed};
 ghost use Rattle.nf_simplex.specs.Verdicts.{AreMoves};
 ghost use Rattle.nf_basis.specs.Kept.{IsNonbasic, IsPresent, IsStateOf, number};
-ghost use Rattle.nf_basis.specs.Names.{col_of, place_of};
+ghost use Rattle.nf_basis.specs.Names.{col_of};
 ghost use Rattle.nf_basis.specs.Numbers.{AreEntriesBySlot, in_slot};
 ghost use Rattle.nf_certify.specs.Moving.{ArePut, IsPutAt};
 
 use crate::lists::list;
-use nf_basis::{Basis, Col, Place, State};
+use nf_basis::{Basis, Col, State};
 use nf_frac::Frac;
 use nf_prob::{Fracs, Problem};
 use std::alloc::{AllocError, Global};
@@ -25,16 +24,6 @@ pub(crate) fn stage_rows(p: &Problem, state: &State) -> u32
         p.nodes()
     } else {
         p.rows()
-    }
-}
-
-/// Whether a column moves down from where it stands.
-pub(crate) fn moves_down(place: Place) -> bool
-    ensures { result ≡ goes_down (place_of place) }
-{
-    match place {
-        Place::Upper => true,
-        Place::Lower | Place::Basic | Place::Absent => false,
     }
 }
 

@@ -106,7 +106,7 @@ fn quotient<L: Ledger>(
 {
     match priced_place(p, state, k) {
         Place::Basic | Place::Absent => return Ok(None),
-        Place::Lower | Place::Upper => {}
+        Place::Lower | Place::Upper | Place::Zero => {}
     }
     let d1 = phase_cost(p, Phase::One, k, one, steps)?;
     if d1 == Frac::zero() {

@@ -53,6 +53,6 @@ fn given_value<B: Basis>(p: &Problem, basis: &B, j: u32) -> Frac
     let col = Col::Given(j);
     match basis.state().place(col) {
         Place::Absent => Frac::zero(),
-        Place::Lower | Place::Upper | Place::Basic => basis.value(p, col),
+        Place::Lower | Place::Upper | Place::Zero | Place::Basic => basis.value(p, col),
     }
 }

@@ -81,7 +81,8 @@ impl Inverse {
     /// The weights of a slot, by row.
     pub fn row(&self, slot: usize) -> &[Frac]
         requires slot { slot < length self.now }
-        ensures { result.now ≡ weights_of self.now slot }
+        ensures weights { result.now ≡ weights_of self.now slot }
+        ensures one_each { length result.now ≡ length self.now }
     {
         self.rows[slot].as_slice()
     }

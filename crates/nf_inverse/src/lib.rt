@@ -6,4 +6,5 @@ mod rows;
 mod values;
 
 pub use inverse::Inverse;
+pub use rows::add_multiple;
 pub use values::{exchange_values, flip_values, ratio};

@@ -11,8 +11,11 @@ use nf_frac::{Frac, Op, Passed, Steps};
 use nf_sums::{add_product, is_zero, sub_product};
 use std::sync::ledger::Ledger;
 
-/// Adds to each number of `total` the number of `a` at its place times `factor`.
-pub(crate) fn add_multiple<L: Ledger>(
+/// Adds to each number of `total` the number of `a` at its place times `factor`. A product of 0 takes no step, and any
+/// other at most two.
+///
+/// `Passed` only where such a product, or the sum of a number and its product, passes 128 bits.
+pub fn add_multiple<L: Ledger>(
     total: &mut [Frac],
     a: &[Frac],
     factor: Frac,

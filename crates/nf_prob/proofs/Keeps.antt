@@ -172,7 +172,7 @@ arc_rises t h n a b = elim (ℕ_discrete t h) [ yes e ↦ loop e | no d ↦ othe
     other : t ≢ h → RiseBetween 0 n (arc_entries t h)
     other d = subst (λ (b : Bool). RiseBetween 0 n (if b then [] else (if nat_lt t h then from ∷ to ∷ [] else to ∷ from ∷ []))) (sym (ne_eqb t h d)) (sides (nat_lt t h) refl d)
 
-new_is_column : (nodes rows : ℕ) (ends : Option Ends) (cost lower : ℚ) (upper : Option ℚ) → nodes ≤ rows → AreInOrder (Some lower) upper → HaveEndsBelow nodes ends → IsColumn nodes rows (new_column ends cost lower upper)
+new_is_column : (nodes rows : ℕ) (ends : Option Ends) (cost : ℚ) (lower upper : Option ℚ) → nodes ≤ rows → AreInOrder lower upper → HaveEndsBelow nodes ends → IsColumn nodes rows (new_column ends cost lower upper)
 new_is_column nodes rows None cost lower upper h o e = record { ordered = o; by_row = tt; ends_within = tt; at_nodes = λ i b. entry_at-nil i; few_at_nodes = omega arith }
 new_is_column nodes rows (Some s) cost lower upper h o e = record { ordered = o; by_row = rise_more 0 nodes rows (arc_entries s.tail s.head) h (arc_rises s.tail s.head nodes e.0 e.1); ends_within = e; at_nodes = λ i b. arc_at s.tail s.head i; few_at_nodes = omega (arith, few_of_arc s.tail s.head) }
 
@@ -191,6 +191,14 @@ column_past cs c j h = get_or_past (cs ++ c ∷ []) j no_column (omega (arith, o
 ends_alike : (c d : Column) → c ≡ d → c.ends ≡ d.ends
 ends_alike c d e = ap (λ (d : Column). d.ends) e
 
+-- the same, where what holds of the new column may use that it is this arc
+arcs_more_if : (P : Column → Type 0) (cs : List Column) (new : Option Ends → Column) (n : ℕ) (ends : Option Ends) → n ≤ length cs → (ends ≢ None → n ≡ length cs) → ((s : Ends) → ends ≡ Some s → P (new (Some s))) → HoldsBelow n (λ j. P (get_or cs j no_column)) → HoldsBelow (arcs_with ends n) (λ j. P (get_or (cs ++ new ends ∷ []) j no_column))
+arcs_more_if P cs new n None w f h k j b = subst P (sym (column_below cs (new None) j (omega (arith, w)))) (k j b)
+arcs_more_if P cs new n (Some s) w f h k j b = ⊎_elim
+    (λ l. subst P (sym (column_here cs (new (Some s)) j (sym (l ∙ f (λ q. cc))))) (h s refl))
+    (λ l. subst P (sym (column_below cs (new (Some s)) j (omega (arith, w)))) (k j l))
+    (eq-or-lt_of_le (le_of_suc-le-suc b))
+
 -- what holds of each arc holds with one more column too, if it holds of that where it is an arc
 arcs_more : (P : Column → Type 0) (cs : List Column) (new : Option Ends → Column) (n : ℕ) (ends : Option Ends) → n ≤ length cs → (ends ≢ None → n ≡ length cs) → ((s : Ends) → P (new (Some s))) → HoldsBelow n (λ j. P (get_or cs j no_column)) → HoldsBelow (arcs_with ends n) (λ j. P (get_or (cs ++ new ends ∷ []) j no_column))
 arcs_more P cs new n None w f h k j b = subst P (sym (column_below cs (new None) j (omega (arith, w)))) (k j b)
@@ -202,13 +210,13 @@ arcs_more P cs new n (Some s) w f h k j b = ⊎_elim
 pub three_cases : (a b : ℕ) → (a < b) ⊎ ((a ≡ b) ⊎ (b < a))
 three_cases a b = grind arith
 
-pub with_ends_keeps : (p : LinearProgram) (ends : Option Ends) (cost lower : ℚ) (upper : Option ℚ) → AreInOrder (Some lower) upper → HaveEndsBelow p.nodes ends → (ends ≢ None → p.arcs ≡ length p.columns) → IsProblem p → IsProblem (with_ends p ends cost lower upper)
-with_ends_keeps p ends cost lower upper o e first k = record {
+pub with_ends_keeps : (p : LinearProgram) (ends : Option Ends) (cost : ℚ) (lower upper : Option ℚ) → AreInOrder lower upper → (ends ≢ None → lower ≢ None) → HaveEndsBelow p.nodes ends → (ends ≢ None → p.arcs ≡ length p.columns) → IsProblem p → IsProblem (with_ends p ends cost lower upper)
+with_ends_keeps p ends cost lower upper o bounded e first k = record {
   nodes_within = k.nodes_within;
   arcs_within = within ends first;
   nodes_are_equal = k.nodes_are_equal;
   arcs_first = arcs_more (λ c. c.ends ≢ None) p.columns (λ s. new_column s cost lower upper) p.arcs ends k.arcs_within first (λ s q. cc) k.arcs_first;
-  arcs_have_lower = arcs_more (λ c. c.lower ≢ None) p.columns (λ s. new_column s cost lower upper) p.arcs ends k.arcs_within first (λ s q. cc) k.arcs_have_lower;
+  arcs_have_lower = arcs_more_if (λ c. c.lower ≢ None) p.columns (λ s. new_column s cost lower upper) p.arcs ends k.arcs_within first (λ s q. bounded (λ z. let w : Some s ≡ None = sym q ∙ z in cc)) k.arcs_have_lower;
   others_last = others ends first;
   each = All-push (IsColumn p.nodes (length p.rows)) p.columns (new_column ends cost lower upper) k.each (new_is_column p.nodes (length p.rows) ends cost lower upper k.nodes_within o e);
 }

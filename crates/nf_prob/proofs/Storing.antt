@@ -8,9 +8,9 @@ use Rattle.std.proofs.lemmas.List.Elements.{All-push, All-set, All-get_or}
 use Rattle.nf_num.specs.Rational.{ℚ, zero_ℚ}
 use Rattle.nf_model.specs.declared.RowKind.{RowKind}
 use Rattle.nf_model.specs.declared.RowKind.TheVariants.{Eq}
-use Rattle.nf_model.specs.Program.{Ends, Row, Column, LinearProgram, IsAtMost, column}
+use Rattle.nf_model.specs.Program.{Ends, Row, Column, LinearProgram, column}
 use Rattle.nf_model.specs.Program as model
-use Rattle.nf_model.specs.Problem.{HaveEndsBelow, IsColumn, IsProblem}
+use Rattle.nf_model.specs.Problem.{AreInOrder, HaveEndsBelow, IsColumn, IsProblem}
 use Rattle.nf_prob.specs.declared.stored.Entry.{Entry}
 use Rattle.nf_prob.specs.declared.stored.StoredRow.{StoredRow}
 use Rattle.nf_prob.specs.declared.stored.StoredColumn.{StoredColumn}
@@ -70,9 +70,9 @@ both_or_none : (p : LinearProgram) (tail head : ℕ) → AreEnds p tail head →
 both_or_none p tail head (inl h) = inl (h.0.0, h.1.0)
 both_or_none p tail head (inr h) = inr h
 
-pub stored_column : (columns new : List StoredColumn) (rows : List StoredRow) (nodes arcs count : ℕ) (m : Bool) (c : StoredColumn) (p : LinearProgram) → program_from columns rows nodes arcs m ≡ p → HasRoom p → IsAtMost c.upper c.lower → AreEnds p c.tail c.head → map entry_of c.entries.items ≡ end_entries (ends_of c.tail c.head) → All (λ e. 0 < e.row) c.entries.items → count ≡ arcs_with (ends_of c.tail c.head) arcs → new ≡ columns ++ c ∷ [] → IsStored columns rows nodes arcs m → IsStored new rows nodes count m
-stored_column columns new rows nodes arcs count m c p view room o ends es positive n e s = record {
-  problem = subst IsProblem grown (with_ends_keeps old (ends_of c.tail c.head) c.cost c.lower c.upper o (ends_within old c.tail c.head here) (arcs_so_far old c.tail c.head here) s.problem);
+pub stored_column : (columns new : List StoredColumn) (rows : List StoredRow) (nodes arcs count : ℕ) (m : Bool) (c : StoredColumn) (p : LinearProgram) → program_from columns rows nodes arcs m ≡ p → HasRoom p → AreInOrder c.lower c.upper → (ends_of c.tail c.head ≢ None → c.lower ≢ None) → AreEnds p c.tail c.head → map entry_of c.entries.items ≡ end_entries (ends_of c.tail c.head) → All (λ e. 0 < e.row) c.entries.items → count ≡ arcs_with (ends_of c.tail c.head) arcs → new ≡ columns ++ c ∷ [] → IsStored columns rows nodes arcs m → IsStored new rows nodes count m
+stored_column columns new rows nodes arcs count m c p view room o bounded ends es positive n e s = record {
+  problem = subst IsProblem grown (with_ends_keeps old (ends_of c.tail c.head) c.cost c.lower c.upper o bounded (ends_within old c.tail c.head here) (arcs_so_far old c.tail c.head here) s.problem);
   numbered = subst (All HasNumbers) (sym e) (All-push HasNumbers columns c s.numbered (record { ends = both_or_none p c.tail c.head ends; rows = positive }));
   few_columns = let space = room_for_rows columns rows nodes arcs m p view room in omega (arith, one_longer columns new c e, space.1);
   few_rows = s.few_rows;
@@ -85,7 +85,7 @@ stored_column columns new rows nodes arcs count m c p view room o ends es positi
     here = subst (λ q. AreEnds q c.tail c.head) (sym view) ends
 
     one : new_column (ends_of c.tail c.head) c.cost c.lower c.upper ≡ column_of c
-    one = λ i. record { cost = c.cost; lower = Some c.lower; upper = c.upper; ends = ends_of c.tail c.head; entries = sym es i }
+    one = λ i. record { cost = c.cost; lower = c.lower; upper = c.upper; ends = ends_of c.tail c.head; entries = sym es i }
 
     grown : with_column (program_from columns rows nodes arcs m) c.tail c.head c.cost c.lower c.upper ≡ program_from new rows nodes count m
     grown = ap₂ (λ (cs : List Column) (k : ℕ). record { columns = cs; rows = map row_of rows; nodes = nodes; arcs = k; maximizes = m })

@@ -34,8 +34,8 @@ end_entries None = []
 end_entries (Some e) = arc_entries e.tail e.head
 
 -- A new column, with the node entries of its ends.
-abbrev pub new_column : Option Ends → ℚ → ℚ → Option ℚ → Column
-new_column ends cost lower upper = record { cost = cost; lower = Some lower; upper = upper; ends = ends; entries = end_entries ends }
+abbrev pub new_column : Option Ends → ℚ → Option ℚ → Option ℚ → Column
+new_column ends cost lower upper = record { cost = cost; lower = lower; upper = upper; ends = ends; entries = end_entries ends }
 
 -- The number of arcs, with one more column.
 abbrev pub arcs_with : Option Ends → ℕ → ℕ
@@ -43,11 +43,11 @@ arcs_with None n = n
 arcs_with (Some e) n = suc n
 
 -- One more column, by its ends.
-abbrev pub with_ends : LinearProgram → Option Ends → ℚ → ℚ → Option ℚ → LinearProgram
+abbrev pub with_ends : LinearProgram → Option Ends → ℚ → Option ℚ → Option ℚ → LinearProgram
 with_ends p ends cost lower upper = record p { columns = p.columns ++ new_column ends cost lower upper ∷ []; arcs = arcs_with ends p.arcs }
 
 -- One more column, by the numbers from 1 of its tail and head, which are both 0 for a nonarc variable.
-abbrev pub with_column : LinearProgram → ℕ → ℕ → ℚ → ℚ → Option ℚ → LinearProgram
+abbrev pub with_column : LinearProgram → ℕ → ℕ → ℚ → Option ℚ → Option ℚ → LinearProgram
 with_column p tail head cost lower upper = with_ends p (ends_of tail head) cost lower upper
 
 -- Entries with one more, in its place by row number.

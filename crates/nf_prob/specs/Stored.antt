@@ -1,5 +1,5 @@
 -- The program that stored rows and columns stand for, and what they keep. Problem and its builder are seen so.
-use Rattle.std.specs.Prelude.{◌≡◌, ◌⊎◌, ℕ, ◌<◌, ◌≤◌, ◌^◌, Bool, List, length, map, slice_index_or, Some}
+use Rattle.std.specs.Prelude.{◌≡◌, ◌⊎◌, ℕ, ◌<◌, ◌≤◌, ◌^◌, Bool, List, length, map, slice_index_or}
 use Rattle.std.specs.List.{All}
 use Rattle.nf_num.specs.Rational.{zero_ℚ}
 use Rattle.nf_model.specs.Program.{Row, Column, LinearProgram}
@@ -16,7 +16,7 @@ row_of r = record { kind = r.kind; right = r.right }
 
 -- The column that a stored column stands for.
 abbrev pub column_of : StoredColumn → Column
-column_of c = record { cost = c.cost; lower = Some c.lower; upper = c.upper; ends = ends_of c.tail c.head; entries = map entry_of c.entries.items }
+column_of c = record { cost = c.cost; lower = c.lower; upper = c.upper; ends = ends_of c.tail c.head; entries = map entry_of c.entries.items }
 
 -- The program of stored columns and rows.
 abbrev pub program_from : List StoredColumn → List StoredRow → ℕ → ℕ → Bool → LinearProgram

@@ -1,8 +1,7 @@
 // A problem while it is made.
-ghost use Rattle.std.specs.Prelude.{◌≡◌, ◌≢◌, ◌⊎◌, ◌<◌, ◌≤◌, ◌-◌, ◌^◌, ℕ, List, [], ◌∷◌, length, map, IfOk, IfErr};
+ghost use Rattle.std.specs.Prelude.{◌≡◌, ◌≢◌, ◌⊎◌, ◌<◌, ◌≤◌, ◌-◌, ◌^◌, ℕ, List, [], ◌∷◌, length, map, None, IfOk, IfErr};
 ghost use Rattle.std.specs.List.{All};
-ghost use Rattle.nf_model.specs.Problem.{RiseBetween};
-ghost use Rattle.nf_model.specs.Program.{IsAtMost};
+ghost use Rattle.nf_model.specs.Problem.{AreInOrder, RiseBetween};
 ghost use Rattle.nf_prob.specs.Building.{AreEnds, HasRoom, IsNew, arcs_with, empty_program, end_entries, inserted, with_column, with_entry, with_node, with_row};
 ghost use Rattle.nf_prob.specs.Numbers.{IsNumber, ends_of, entry_of};
 
@@ -112,11 +111,12 @@ impl ProblemBuilder {
         tail: u32,
         head: u32,
         cost: Frac,
-        lower: Frac,
+        lower: Option<Frac>,
         upper: Option<Frac>,
     ) -> Result<u32, AllocError>
         requires room { HasRoom self.old }
-        requires ordered { IsAtMost upper lower }
+        requires ordered { AreInOrder lower upper }
+        requires bounded { ends_of tail head ≢ None → lower ≢ None }
         requires ends { AreEnds self.old tail head }
         ensures added { IfOk result (λ _. self.new ≡ with_column self.old tail head cost lower upper) }
         ensures number { IfOk result (λ j. j ≡ length self.new.columns) }
@@ -125,7 +125,7 @@ impl ProblemBuilder {
         let arcs = counted(self.arcs, tail);
         let entries = node_entries(self.alloc, tail, head)?;
         let cost = Number::new(self.alloc, cost)?;
-        let lower = Number::new(self.alloc, lower)?;
+        let lower = Number::new_option(self.alloc, lower)?;
         let upper = Number::new_option(self.alloc, upper)?;
         self.columns.push(StoredColumn {
             cost,

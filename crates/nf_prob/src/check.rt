@@ -98,7 +98,7 @@ fn is_in_bounds(p: &Problem, j: usize, x: &[Frac]) -> bool
     requires within { j < length p.now.columns }
     ensures { IsTrue result ↔ IsInBounds p.now x.now j }
 {
-    is_at_least(Some(p.lower_at(j)), x[j]) && is_at_most(p.upper_at(j), x[j])
+    is_at_least(p.lower_at(j), x[j]) && is_at_most(p.upper_at(j), x[j])
 }
 
 fn first_broken_row<L: Ledger>(
@@ -190,7 +190,7 @@ fn cost_fits_at<L: Ledger>(
     ensures passed { IfErr result (PassesIn (CostTerms p.now y.now)) }
 {
     let d = reduced_cost_at(p, j, y, steps)?;
-    Ok(cost_fits(d, Some(p.lower_at(j)), p.upper_at(j), x[j]))
+    Ok(cost_fits(d, p.lower_at(j), p.upper_at(j), x[j]))
 }
 
 fn reduced_cost_at<L: Ledger>(

@@ -111,7 +111,7 @@ fn share_at<L: Ledger>(
     ensures passed { IfErr result (PassesIn (CombinedTerms p.now y.now)) }
 {
     let weight = combined_at(p, j, y, steps)?;
-    match place_of_greatest(Some(p.lower_at(j)), p.upper_at(j), weight) {
+    match place_of_greatest(p.lower_at(j), p.upper_at(j), weight) {
         Some(place) => Ok(Some(Share { weight, place })),
         None => Ok(None),
     }

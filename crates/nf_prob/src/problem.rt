@@ -1,5 +1,5 @@
 // A finished problem and what it tells.
-ghost use Rattle.std.specs.Prelude.{◌≡◌, ◌<◌, ◌≤◌, ◌^◌, ◌-◌, ℕ, length, map, Some};
+ghost use Rattle.std.specs.Prelude.{◌≡◌, ◌<◌, ◌≤◌, ◌^◌, ◌-◌, ℕ, length, map};
 ghost use Rattle.std.specs.List.{All};
 ghost use Rattle.nf_model.specs.Problem.{IsProblem};
 ghost use Rattle.nf_model.specs.Program.{column, row, lower_of, upper_of};
@@ -116,10 +116,10 @@ impl Problem {
         self.cost_at(j as usize - 1)
     }
 
-    /// The lower bound of a column.
-    pub fn lower(&self, j: u32) -> Frac
+    /// The lower bound of a column, if it has one.
+    pub fn lower(&self, j: u32) -> Option<Frac>
         requires number { IsNumber j (length self.now.columns) }
-        ensures { lower_of (column self.now (j - 1)) ≡ Some result }
+        ensures { lower_of (column self.now (j - 1)) ≡ result }
     {
         self.lower_at(j as usize - 1)
     }
@@ -197,11 +197,11 @@ impl Problem {
         self.columns[j].cost.get()
     }
 
-    pub(crate) fn lower_at(&self, j: usize) -> Frac
+    pub(crate) fn lower_at(&self, j: usize) -> Option<Frac>
         requires within { j < length self.now.columns }
-        ensures { lower_of (column self.now j) ≡ Some result }
+        ensures { lower_of (column self.now j) ≡ result }
     {
-        self.columns[j].lower.get()
+        self.columns[j].lower.as_ref().map(Number::get)
     }
 
     pub(crate) fn upper_at(&self, j: usize) -> Option<Frac>

@@ -60,7 +60,7 @@ fn is_free(p: &Problem, j: usize, r: &[Frac]) -> bool
     requires within { j < length p.now.columns }
     ensures { IsTrue result ↔ IsFree p.now r.now j }
 {
-    is_unstopped(r[j], Some(p.lower_at(j)), p.upper_at(j))
+    is_unstopped(r[j], p.lower_at(j), p.upper_at(j))
 }
 
 fn first_left_row<L: Ledger>(

@@ -50,7 +50,7 @@ pub(crate) type Entries = SmallVec<Entry, 2>;
 #[derive(Drop)]
 pub(crate) struct StoredColumn {
     pub(crate) cost: Number,
-    pub(crate) lower: Number,
+    pub(crate) lower: Option<Number>,
     pub(crate) upper: Option<Number>,
     pub(crate) tail: u32,
     pub(crate) head: u32,

@@ -10,7 +10,7 @@ use Rattle.nf_simplex.specs.Standing.{place_at}
 use Rattle.nf_simplex.proofs.StageOf.{column_slack}
 use Rattle.nf_basis.specs.declared.col.Col.TheVariants.{Slack, Artificial}
 use Rattle.nf_basis.specs.declared.col.Place.{Place}
-use Rattle.nf_basis.specs.declared.col.Place.TheVariants.{Lower, Upper, Basic, Absent}
+use Rattle.nf_basis.specs.declared.col.Place.TheVariants.{Lower, Upper, Zero, Basic, Absent}
 use Rattle.nf_basis.specs.Names.{place_of}
 use Rattle.nf_basis.specs.Kept.{Kept, IsStateOf, IsPresent, number, place_in}
 use Rattle.nf_basis.proofs.Wanted.{place_told}
@@ -20,6 +20,7 @@ use Rattle.nf_stage_two.specs.Wide.IsOwnColumn.{slack as own_slack, artificial a
 only_basic : (r : Place) → place_of r ≡ model.Basic → r ≡ Basic
 only_basic Lower e = cc
 only_basic Upper e = cc
+only_basic Zero e = cc
 only_basic Basic e = refl
 only_basic Absent e = cc
 

@@ -190,12 +190,14 @@ module _ (p : LinearProgram) (s t : Standing) (x : ℕ → ℚ) (ok : IsProblem 
   -- ---- the parts
   pub wide_parts : (u : List (List ℚ)) → IsInverseOf p t slots u → HasParts p t slots u values
   wide_parts u inv = record {
-    basis = record {
-      as_many = count_of_slots p t slots ok now_listed;
-      independent = independent_of_matrix (stage_of p t) (place_at t) (slot_number p slots) (slots_are p t slots ok now_listed) (weight u) record { right = inv.right; left = inv.left };
+    basics = record {
+      basis = record {
+        as_many = count_of_slots p t slots ok now_listed;
+        independent = independent_of_matrix (stage_of p t) (place_at t) (slot_number p slots) (slots_are p t slots ok now_listed) (weight u) record { right = inv.right; left = inv.left };
+      };
+      listed = now_listed;
+      value_each = w.as_many ∙ (let z = ok.nodes_within in let e : length p.rows ≡ p.nodes + (layout_of p).sides = omega arith in e ∙ sym all_rows);
+      values = wide_values_are;
     };
-    listed = now_listed;
     inverse = inv;
-    value_each = w.as_many ∙ (let z = ok.nodes_within in let e : length p.rows ≡ p.nodes + (layout_of p).sides = omega arith in e ∙ sym all_rows);
-    values = wide_values_are;
   }

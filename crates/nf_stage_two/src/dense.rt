@@ -58,8 +58,8 @@ pub fn widen<B: Basis, L: Ledger>(
     let slots = wide_slots(alloc, p, first, &state)?;
     let values = wide_values(alloc, p, first, &state, slots.as_slice(), steps)?;
     let inverse = wide_inverse(alloc, p, first, &state, slots.as_slice(), steps)?;
-    let work = vec![in alloc; Frac::zero(); p.rows() as usize]?;
-    Ok(DenseBasis::of_parts(state, slots, inverse, values, work))
+    let basis = DenseBasis::of_parts(alloc, state, slots, inverse, values)?;
+    Ok(basis)
 }
 
 // ---- slots

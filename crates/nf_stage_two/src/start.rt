@@ -7,6 +7,7 @@ ghost use Rattle.nf_simplex.specs.Layout.{layout_of};
 ghost use Rattle.nf_simplex.specs.Moves.{IsSecondState};
 ghost use Rattle.nf_simplex.specs.StageOf.{StageOne, StageTwo};
 ghost use Rattle.nf_simplex.specs.Standing.{IsFeasibleState, Standing};
+ghost use Rattle.nf_simplex.specs.Starts as starts;
 ghost use Rattle.nf_simplex.specs.Starts.{TakesSlack, second_number, second_rest};
 ghost use Rattle.nf_basis.specs.Arising.{StateTerms};
 ghost use Rattle.nf_basis.specs.Kept.{IsStateOf};
@@ -19,9 +20,10 @@ use std::alloc::Global;
 use std::sync::ledger::Ledger;
 
 /// The start of stage two after the state of a basis of stage one: the arcs and the artificials of the node rows stand
-/// as they are, nonarc variables at their lower bounds. For each side row its slack is basic where the slack's vector,
-/// its value and then its weights, is lexicographically positive; else its artificial is, with the sign -1 where the
-/// row's rest is negative. After a lexicographically feasible state it is one too.
+/// as they are. A nonarc variable is at its lower bound, else at its upper bound, else at zero. For each side row its
+/// slack is basic where the slack's vector, its value and then its weights, is lexicographically positive; else its
+/// artificial is, with the sign -1 where the row's rest is negative. After a lexicographically feasible state it is one
+/// too.
 ///
 /// `Passed` only where an operation of a side row's rest passes 128 bits.
 pub fn start_two<B: Basis, L: Ledger>(
@@ -112,7 +114,18 @@ fn started_number<B: Basis>(p: &Problem, basis: &B, j: u32) -> Frac
     if j <= p.arcs() {
         return basis.value(p, Col::Given(j));
     }
-    p.lower(j)
+    nonarc_number(p.lower(j), p.upper(j))
+}
+
+// The number at which a nonarc variable with these bounds starts: its lower bound, else its upper bound, else 0.
+fn nonarc_number(lower: Option<Frac>, upper: Option<Frac>) -> Frac
+    ensures { result ≡ starts.nonarc_number lower upper }
+{
+    match (lower, upper) {
+        (Some(lower), _) => lower,
+        (None, Some(upper)) => upper,
+        (None, None) => Frac::zero(),
+    }
 }
 
 // Whether the vector of a side row's slack is positive: its value is the rest, or the rest negated, and at 0 its weight

@@ -1,9 +1,9 @@
-use Rattle.std.proofs.Common.{◌∙◌, sym, subst}
+use Rattle.std.proofs.Common.{sym, subst}
 use Rattle.nf_simplex.specs.Layout.{layout_of}
 use Rattle.nf_simplex.specs.Starts.{second_rest}
 use Rattle.nf_basis.specs.Numbers.{ListBasics}
 use Rattle.nf_stage_two.specs.Wide.{AreWideValues, IsWideBelow}
-use Rattle.nf_stage_two.proofs.WideSlots.{wide_listed, rows_all}
+use Rattle.nf_stage_two.proofs.WideSlots.{wide_listed}
 use Rattle.nf_stage_two.proofs.WideInverse.{wide_inverse_is}
 use Rattle.nf_stage_two.proofs.WideValues.{wide_parts}
 use Rattle.nf_stage_two.proofs.dense.widen.Goals as goal
@@ -34,5 +34,4 @@ returns-clause-numbers g c =
     let are = c.in_ok-slots.ensures in
     let inverse = wide_inverse_is p s t x b.problem c.requires.one b.state c.requires.second first slots b.listed are b.basis.independent c.in_ok-inverse.inverse (subst (λ u. IsWideBelow p s t u p.nodes c.in_ok-inverse.inverse) c.as_slice-2.ensures.value c.in_ok-inverse.ensures.inverse) in
     let values = subst (λ u. AreWideValues p t x (second_rest (layout_of p) x) u c.in_ok-values.values.items) c.as_slice.ensures.value c.in_ok-values.ensures.values in
-    c.of_parts.ensures.numbers p c.requires.state (wide_parts p s t x b.problem c.requires.one b.state c.requires.second first slots b.listed are b.values c.in_ok-values.values.items values c.in_ok-inverse.inverse inverse)
-    (sym c.in_ok-work.work.ok.0 ∙ (c.in_ok-work.ensures.len ∙ (c.rows.ensures.number ∙ rows_all p t b.problem.nodes_within c.requires.second.stage)))
+    c.in_ok-basis.ensures.numbers p c.requires.state (wide_parts p s t x b.problem c.requires.one b.state c.requires.second first slots b.listed are b.values c.in_ok-values.values.items values c.in_ok-inverse.inverse inverse)

@@ -23,7 +23,7 @@ returns-in_err-add_multiple-clause-passed g c = λ f h.
     let within : i < length c.args.self.now = subst (λ n. i < n) long step.1 in
     handed_on c.from_residual.result _ _ c.from_residual.ensures.1
     (wider (Is (inverse_terms (length c.args.self.now) (λ s. weight c.args.self.now s i) f)) (DualTerms c.args.self.now f) _ (λ t e. (i, within, e))
-    (product_added (length c.args.self.now) c.loop-s.s (λ s. weight c.args.self.now s i) f _ _ _ _ here (c.loop-s.invariant.total f h i within) (ap (λ l. at l i) c.row.ensures) (h c.loop-s.s c.cost.result here c.cost.ensures) step.2))
+    (product_added (length c.args.self.now) c.loop-s.s (λ s. weight c.args.self.now s i) f _ _ _ _ here (c.loop-s.invariant.total f h i within) (ap (λ l. at l i) c.row.ensures.weights) (h c.loop-s.s c.cost.result here c.cost.ensures) step.2))
 
 pub loop-s-preserved : goal.loop-s-preserved
 loop-s-preserved g c =
@@ -32,7 +32,7 @@ loop-s-preserved g c =
     record {
       total = λ f h i b.
           c.in_ok-add_multiple.ensures.value i (subst (λ n. i < n) (sym long) b)
-          ∙ ap₂ ◌+ℚ◌ (c.loop-s.invariant.total f h i b) (ap₂ ◌*ℚ◌ (ap (λ l. at l i) c.row.ensures) (h c.loop-s.s c.cost.result here c.cost.ensures))
+          ∙ ap₂ ◌+ℚ◌ (c.loop-s.invariant.total f h i b) (ap₂ ◌*ℚ◌ (ap (λ l. at l i) c.row.ensures.weights) (h c.loop-s.s c.cost.result here c.cost.ensures))
           ∙ sym (sum_more c.loop-s.s (λ k. weight c.args.self.now k i *ℚ f k));
       cost = omega (arith, c.loop-s.invariant.cost, c.add_multiple.ensures.cost, long, suc-mul c.loop-s.s (2 * length c.args.self.now));
     }
