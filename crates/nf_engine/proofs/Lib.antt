@@ -1,3 +1,5 @@
 mod SumFacts
 mod StepFacts
 mod RunFacts
+mod Once
+mod Determined

@@ -56,10 +56,10 @@ module _ (p : LinearProgram) (rule : Rule) (most : ℕ) (pauses : Pauses) where
   pub limit_due : (a : Point) → IsFeasibleState p a.standing → (slots : List Col) (change : Change) → IsChange p rule a.standing a.cursor slots change → most ≤ a.pivots → Halts p rule most pauses a Limit a
   limit_due a f slots (Pivot c slot to) due h =
       let b : Point = record { standing = exchanged p a.standing (col_of c) (col_of (in_slot slots slot)) (place_of to); pivots = suc a.pivots; cursor = suc (number p c) } in
-      halts_limit c b (step_to p rule a f c b refl refl due.0 due.1.next) h
+      halts_limit c b (step_to p rule a f c b refl refl due.0 due.1 due.2.next) h
   limit_due a f slots (Flip c) due h =
       let b : Point = record { standing = flipped p a.standing (col_of c); pivots = suc a.pivots; cursor = suc (number p c) } in
-      halts_limit c b (step_to p rule a f c b refl refl due.0 due.1.next) h
+      halts_limit c b (step_to p rule a f c b refl refl due.0 due.1 due.2.next) h
 
   joined : (a m b : Point) → GoesOn p rule most pauses a m → GoesOn p rule most pauses m b → GoesOn p rule most pauses a b
   joined a m b x on_here = x

@@ -1,30 +1,26 @@
 -- A turn by the ratio test's answer, and the step that a change makes.
-use Rattle.std.proofs.Common.{◌≡◌, ◌≢◌, ℕ, suc, ◌+◌, ◌*◌, ◌<◌, ◌≤◌, List, sym, ap, ◌∙◌, subst, subst₂, arith}
+use Rattle.std.proofs.Common.{◌≡◌, ℕ, suc, ◌+◌, ◌*◌, ◌<◌, ◌≤◌, Bool, List, sym, ap, ◌∙◌, subst, subst₂, arith}
 use Rattle.nf_num.specs.Rational.{ℚ}
 use Rattle.nf_model.specs.Program.{LinearProgram}
 use Rattle.nf_simplex.specs.Place as model
 use Rattle.nf_simplex.specs.Columns.{Slack}
-use Rattle.nf_simplex.specs.Columns as columns
-use Rattle.nf_simplex.specs.Pricing as model_rule
 use Rattle.nf_simplex.specs.Layout.{Layout}
 use Rattle.nf_simplex.specs.StageOf.{StageNumber, StageOne, StageTwo, IsPresent as InStage}
 use Rattle.nf_simplex.specs.Changes.{exchanged, flipped}
-use Rattle.nf_simplex.specs.Moves.{IsEligibleIn, IsPickedIn, WouldLower, HasNoNext}
+use Rattle.nf_simplex.specs.Moves.{IsNextOf, WouldLower, HasNoNext}
 use Rattle.nf_simplex.specs.Standing.{Standing, IsFeasibleState}
-use Rattle.nf_simplex.proofs.Moving.{eligible_goes}
 use Rattle.nf_simplex.proofs.Prices.{eligible_any}
 use Rattle.nf_simplex.proofs.Standings.{steps_lower}
 use Rattle.nf_basis.specs.declared.col.Col.{Col}
 use Rattle.nf_basis.specs.declared.col.Place.{Place}
-use Rattle.nf_basis.specs.declared.col.Place.TheVariants.{Lower, Upper, Basic, Absent}
 use Rattle.nf_basis.specs.Names.{col_of, place_of}
-use Rattle.nf_basis.specs.Kept.{Kept as State, IsBoundOf, IsNonbasic, IsPresent, IsStateOf, number, place_in}
+use Rattle.nf_basis.specs.Kept.{IsBoundOf, IsNonbasic, IsPresent, number, place_in}
 use Rattle.nf_basis.specs.Numbers.{IsSound, in_slot}
 use Rattle.nf_price.specs.declared.rule.Rule.{Rule}
 use Rattle.nf_ratio.specs.declared.answer.Limit.{Limit}
 use Rattle.nf_ratio.specs.declared.answer.Limit.TheVariants.{Leave, Ray}
 use Rattle.nf_ratio.specs.declared.answer.Limit.TheVariants as limit
-use Rattle.nf_ratio.specs.Answer.{IsLimitOf, IsNextBy, moves_down}
+use Rattle.nf_ratio.specs.Answer.{IsLimitOf}
 use Rattle.nf_engine.specs.declared.halt.Moved.{Moved}
 use Rattle.nf_engine.specs.declared.halt.Moved.TheVariants.{Pivoted, Flipped, Best, NoFlow, NoBound}
 use Rattle.nf_engine.specs.declared.turn.Turn.{Turn}
@@ -34,60 +30,43 @@ use Rattle.nf_engine.specs.declared.turn.Change.TheVariants.{Pivot, Flip}
 use Rattle.nf_engine.specs.Point.{Point}
 use Rattle.nf_engine.specs.Steps.{Picks, StepsBy, HasNoBoundAt, IsEntering, IsChange, IsLimited, IsTurn, IsMade, IsStep, HasEnded, limited_by}
 
--- A place by name is not the place zero.
-named_place : (a : Place) → place_of a ≢ model.Zero
-named_place Lower e = let x : model.Lower ≡ model.Zero = e in cc
-named_place Upper e = let x : model.Upper ≡ model.Zero = e in cc
-named_place Basic e = let x : model.Basic ≡ model.Zero = e in cc
-named_place Absent e = let x : model.Absent ≡ model.Zero = e in cc
-
--- Where a column of a basis stands, as its state tells.
-told_place : (p : LinearProgram) (k : State) (s : Standing) → k.standing ≡ s → IsStateOf p k → (c : Col) (a : Place) → IsPresent p s c
-    → ((q : LinearProgram) → IsStateOf q k → IsPresent q k.standing c → place_of a ≡ place_in q k.standing c) → place_of a ≡ place_in p s c
-told_place p k s same st c a here told = subst (λ t. place_of a ≡ place_in p t c) same (told p st (subst (λ t. IsPresent p t c) (sym same) here))
-
--- A picked column is eligible.
-pub picked_eligible : (p : LinearProgram) (s : Standing) (rule : model_rule.Rule) (cursor : ℕ) (c : columns.Col) → IsPickedIn p s rule cursor c → IsEligibleIn p s c
-picked_eligible p s rule cursor c h = (h.0, h.1.eligible)
-
--- An eligible column would lower the costs, away from the bound at which it stands.
-pub lowers : (p : LinearProgram) (k : State) (s : Standing) → k.standing ≡ s → IsStateOf p k → (c : Col) (a : Place) → IsPresent p s c
-    → ((q : LinearProgram) → IsStateOf q k → IsPresent q k.standing c → place_of a ≡ place_in q k.standing c)
-    → IsEligibleIn p s (col_of c) → WouldLower p s (col_of c) (moves_down p s c)
-lowers p k s same st c a here told e = eligible_goes p s (col_of c) st.problem e (λ z. named_place a (told_place p k s same st c a here told ∙ z))
-
-module _ (p : LinearProgram) (s : Standing) (f : IsFeasibleState p s) (rule : Rule) (cursor : ℕ) (c : Col) where
+module _ (p : LinearProgram) (s : Standing) (f : IsFeasibleState p s) (rule : Rule) (cursor : ℕ) (c : Col) (down : Bool) where
   -- A picked column without a next state: the state has ended unbounded.
-  no_bound : IsPresent p s c → Picks p rule s cursor c → WouldLower p s (col_of c) (moves_down p s c) → HasNoNext p s (col_of c) (moves_down p s c) → HasNoBoundAt p rule s cursor c
+  no_bound : IsPresent p s c → Picks p rule s cursor c → WouldLower p s (col_of c) down → HasNoNext p s (col_of c) down → HasNoBoundAt p rule s cursor c
   no_bound here picked w none = (
     here,
     picked,
     (
-      w.prices,
-      record {
-        eligible = eligible_any p s f.feasible.basis picked.0 w.prices (number p c) picked.1.eligible;
-        enters = w.enters;
-        improves = w.improves;
-        stuck = none;
-      },
+      down,
+      (
+        w.prices,
+        record {
+          eligible = eligible_any p s f.feasible.basis picked.0 w.prices (number p c) picked.1.eligible;
+          enters = w.enters;
+          improves = w.improves;
+          stuck = none;
+        },
+      ),
     ),
   )
 
   -- The turn that the ratio test gives for the picked column is due.
-  pub turn_due : (slots : List Col) (turn : Turn) → IsNonbasic p s c → Picks p rule s cursor c → WouldLower p s (col_of c) (moves_down p s c) → IsLimited p s slots c turn → IsTurn p rule s cursor slots turn
+  pub turn_due : (slots : List Col) (turn : Turn) → IsNonbasic p s c → Picks p rule s cursor c → WouldLower p s (col_of c) down → IsLimited p s slots c down turn → IsTurn p rule s cursor slots turn
   turn_due slots turn there picked w (l, answer, is) = subst (IsTurn p rule s cursor slots) (sym is) (of l answer)
     where
-      of : (l : Limit) → IsLimitOf p s slots c l → IsTurn p rule s cursor slots (limited_by c l)
-      of (Leave slot to) a = (record { nonbasic = there; picked = picked; lowers = w }, a)
-      of limit.Flip a = (record { nonbasic = there; picked = picked; lowers = w }, a)
+      of : (l : Limit) → IsLimitOf p s slots c down l → IsTurn p rule s cursor slots (limited_by c l)
+      of (Leave slot to) a = (down, record { nonbasic = there; picked = picked; lowers = w }, a)
+      of limit.Flip a = (down, record { nonbasic = there; picked = picked; lowers = w }, a)
       of Ray a = no_bound there.0 picked w a
 
 module _ (p : LinearProgram) (rule : Rule) (a : Point) (f : IsFeasibleState p a.standing) (c : Col) (b : Point) (counted : b.pivots ≡ suc a.pivots) (noted : b.cursor ≡ suc (number p c)) where
   -- The step to a next state.
-  pub step_to : IsEntering p rule a.standing a.cursor c → IsNextBy p a.standing c b.standing → StepsBy p rule a c b
-  step_to e next = let l = steps_lower p a.standing b.standing (col_of c) (moves_down p a.standing c) f e.lowers next in record {
+  pub step_to : (down : Bool) → IsEntering p rule a.standing a.cursor c down → IsNextOf p a.standing (col_of c) down b.standing → StepsBy p rule a c b
+  step_to down e next = let l = steps_lower p a.standing b.standing (col_of c) down f e.lowers next in record {
     present = e.nonbasic.0;
     picked = e.picked;
+    down = down;
+    lowers = e.lowers;
     next = next;
     feasible = l.0;
     lower = l.1;
@@ -98,7 +77,7 @@ module _ (p : LinearProgram) (rule : Rule) (a : Point) (f : IsFeasibleState p a.
   -- A pivot makes it,
   pub pivot_made : (slots : List Col) (x : ℕ → ℚ) → IsSound p a.standing slots x → (slot : ℕ) (to : Place) (leaving : Col) → IsChange p rule a.standing a.cursor slots (Pivot c slot to)
       → leaving ≡ in_slot slots slot → b.standing ≡ exchanged p a.standing (col_of c) (col_of (in_slot slots slot)) (place_of to) → IsMade p rule a (Pivoted c leaving) b
-  pivot_made slots x sound slot to leaving (e, leaves) same becomes = (
+  pivot_made slots x sound slot to leaving (down, e, leaves) same becomes = (
     c,
     step,
     (
@@ -114,11 +93,11 @@ module _ (p : LinearProgram) (rule : Rule) (a : Point) (f : IsFeasibleState p a.
   )
     where
       step : StepsBy p rule a c b
-      step = step_to e (subst (IsNextBy p a.standing c) (sym becomes) leaves.next)
+      step = step_to down e (subst (IsNextOf p a.standing (col_of c) down) (sym becomes) leaves.next)
 
   -- and so does a flip.
   pub flip_made : (slots : List Col) → IsChange p rule a.standing a.cursor slots (Flip c) → b.standing ≡ flipped p a.standing (col_of c) → IsMade p rule a (Flipped c) b
-  flip_made slots (e, flips) becomes = let step : StepsBy p rule a c b = step_to e (subst (IsNextBy p a.standing c) (sym becomes) flips.next) in (c, step, (step, becomes))
+  flip_made slots (down, e, flips) becomes = let step : StepsBy p rule a c b = step_to down e (subst (IsNextOf p a.standing (col_of c) down) (sym becomes) flips.next) in (c, step, (step, becomes))
 
 -- Points with the same parts.
 abbrev pub at_point : Standing → ℕ → ℕ → Point

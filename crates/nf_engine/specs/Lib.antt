@@ -1,3 +1,4 @@
 pub mod Point
 pub mod Steps
 pub mod Run
+pub mod Laws

@@ -3,16 +3,12 @@ ghost use Rattle.std.specs.Prelude.{◌≡◌, ℕ, suc, ◌+◌, ◌*◌, ◌^�
 ghost use Rattle.nf_sums.specs.Terms.{PassesIn};
 ghost use Rattle.nf_simplex.specs.Size.{size};
 ghost use Rattle.nf_simplex.specs.Standing.{IsFeasibleState, Standing, rows_of};
-ghost use Rattle.nf_basis.specs.declared.col.Col.{Col as Column};
 ghost use Rattle.nf_basis.specs.Arising.{StateTerms};
 ghost use Rattle.nf_basis.specs.Kept.{IsPresent, number};
-ghost use Rattle.nf_basis.specs.Names.{col_of};
-ghost use Rattle.nf_ratio.specs.Answer.{moves_down};
-ghost use Rattle.nf_ratio.specs.Ratios.{StandsAloneAfter};
 ghost use Rattle.nf_engine.specs.Point.{point};
 ghost use Rattle.nf_price.specs.declared.rule.Rule.{Rule as RuleName};
 ghost use Rattle.nf_engine.specs.Run.{IsHaltDue, IsTurnTo, PassesAt, RunsTo};
-ghost use Rattle.nf_engine.specs.Steps.{IsChange, IsMade, IsStep, Picks};
+ghost use Rattle.nf_engine.specs.Steps.{IsChange, IsMade, IsStep, IsTestedBy};
 
 use crate::artificials::{is_short, rows_in};
 use crate::halt::{Halt, Moved, Pauses};
@@ -124,7 +120,7 @@ impl<B: Basis> Engine<B> {
         ensures step { IfOk result (λ m. IsStep p.now rule (point B.standing self.old) m (point B.standing self.new)) }
         ensures count { IfErr result (λ _. self.new.pivots ≡ self.old.pivots) }
         ensures passed { IfErr result (PassesIn (StateTerms p.now (B.standing self.old.basis))) }
-        ensures cost { (t : ℕ) → ((c : Column) → Picks p.now rule (B.standing self.old.basis) self.old.cursor c → StandsAloneAfter p.now (B.standing self.old.basis) (col_of c) (moves_down p.now (B.standing self.old.basis) c) t) → steps.new ≤ steps.old + 8 * (1 + t) * (B.unit p.now (B.standing self.old.basis).stage + 6 * size p.now (B.standing self.old.basis).stage) }
+        ensures cost { (t : ℕ) → IsTestedBy p.now rule (B.standing self.old.basis) self.old.cursor t → steps.new ≤ steps.old + 8 * (1 + t) * (B.unit p.now (B.standing self.old.basis).stage + 6 * size p.now (B.standing self.old.basis).stage) }
     {
         let due = look(p, &mut self.basis, rule, self.cursor, &mut self.room, steps)?;
         match due.turn {

@@ -2,23 +2,21 @@
 ghost use Rattle.std.specs.Prelude.{◌≡◌, ℕ, suc, ◌+◌, ◌*◌, ◌<◌, ◌≤◌, length, IfOk, IfErr};
 ghost use Rattle.nf_sums.specs.Terms.{PassesIn};
 ghost use Rattle.nf_simplex.specs.Size.{size};
-ghost use Rattle.nf_simplex.specs.Moves.{IsEligibleIn, WouldLower};
+ghost use Rattle.nf_simplex.specs.Moves.{CanEnterIn};
 ghost use Rattle.nf_simplex.specs.Standing.{IsFeasibleState, Standing, rows_of};
 ghost use Rattle.nf_price.specs.Choice.{TellsShort};
-ghost use Rattle.nf_basis.specs.declared.col.Col.{Col as Column};
 ghost use Rattle.nf_basis.specs.Arising.{StateTerms};
 ghost use Rattle.nf_basis.specs.Kept.{IsNonbasic, IsPresent, number};
 ghost use Rattle.nf_basis.specs.Names.{col_of};
-ghost use Rattle.nf_ratio.specs.Answer.{moves_down};
 ghost use Rattle.nf_ratio.specs.Ratios.{StandsAloneAfter};
-ghost use Rattle.nf_engine.specs.Steps.{IsLimited, IsTurn, Picks, limited_by};
+ghost use Rattle.nf_engine.specs.Steps.{IsLimited, IsTestedBy, IsTurn, limited_by};
 
 use crate::artificials::is_short;
 use crate::halt::Moved;
 use crate::room::Room;
 use nf_basis::{Basis, Col, Phase, Place};
 use nf_frac::{Passed, Steps};
-use nf_price::{Rule, choose};
+use nf_price::{Pick, Rule, choose};
 use nf_prob::Problem;
 use nf_ratio::{Limit, limit};
 use std::sync::ledger::Ledger;
@@ -63,7 +61,7 @@ pub(crate) fn look<B: Basis, L: Ledger>(
     ensures turn { IfOk result (λ l. IsTurn p.now rule (B.standing basis.old) cursor (B.slots basis.old) l.turn) }
     ensures short { IfOk result (λ l. TellsShort p.now (B.standing basis.old) l.short) }
     ensures passed { IfErr result (PassesIn (StateTerms p.now (B.standing basis.old))) }
-    ensures cost { (t : ℕ) → ((c : Column) → Picks p.now rule (B.standing basis.old) cursor c → StandsAloneAfter p.now (B.standing basis.old) (col_of c) (moves_down p.now (B.standing basis.old) c) t) → steps.new ≤ steps.old + (4 * (1 + t) * B.unit p.now (B.standing basis.old).stage + 48 * (1 + t) * size p.now (B.standing basis.old).stage) }
+    ensures cost { (t : ℕ) → IsTestedBy p.now rule (B.standing basis.old) cursor t → steps.new ≤ steps.old + (4 * (1 + t) * B.unit p.now (B.standing basis.old).stage + 48 * (1 + t) * size p.now (B.standing basis.old).stage) }
 {
     basis.duals(p, Phase::One, room.one.as_mut_slice(), steps)?;
     basis.duals(p, Phase::Two, room.two.as_mut_slice(), steps)?;
@@ -79,8 +77,8 @@ pub(crate) fn look<B: Basis, L: Ledger>(
         steps,
     )?;
     match picked {
-        Some(entering) => {
-            let turn = move_of(p, basis, entering, room, steps)?;
+        Some(pick) => {
+            let turn = move_of(p, basis, pick, room, steps)?;
             Ok(Finding { turn, short })
         }
         None if short => Ok(Finding {
@@ -94,32 +92,29 @@ pub(crate) fn look<B: Basis, L: Ledger>(
     }
 }
 
-// What is due where an eligible column enters.
+// What is due where a column enters.
 fn move_of<B: Basis, L: Ledger>(
     p: &Problem,
     basis: &mut B,
-    entering: Col,
+    pick: Pick,
     room: &mut Room,
     steps: &mut Steps<L>,
 ) -> Result<Turn, Passed>
     requires numbers { B.HasNumbers p.now basis.old }
     requires feasible { IsFeasibleState p.now (B.standing basis.old) }
-    requires nonbasic { IsNonbasic p.now (B.standing basis.old) entering }
-    requires eligible { IsEligibleIn p.now (B.standing basis.old) (col_of entering) }
+    requires nonbasic { IsNonbasic p.now (B.standing basis.old) pick.col }
+    requires enters { CanEnterIn p.now (B.standing basis.old) (col_of pick.col) pick.down }
     requires room { room.old ≡ rows_of p.now (B.standing basis.old) }
     ensures numbers { IfOk result (λ _. B.HasNumbers p.now basis.new) }
     ensures standing { IfOk result (λ _. B.standing basis.new ≡ B.standing basis.old) }
     ensures slots { IfOk result (λ _. B.slots basis.new ≡ B.slots basis.old) }
     ensures room { room.new ≡ room.old }
-    ensures lowers { WouldLower p.now (B.standing basis.old) (col_of entering) (moves_down p.now (B.standing basis.old) entering) }
-    ensures limited { IfOk result (IsLimited p.now (B.standing basis.old) (B.slots basis.old) entering) }
+    ensures limited { IfOk result (IsLimited p.now (B.standing basis.old) (B.slots basis.old) pick.col pick.down) }
     ensures passed { IfErr result (PassesIn (StateTerms p.now (B.standing basis.old))) }
-    ensures cost { (t : ℕ) → StandsAloneAfter p.now (B.standing basis.old) (col_of entering) (moves_down p.now (B.standing basis.old) entering) t → steps.new ≤ steps.old + (1 + t) * (B.unit p.now (B.standing basis.old).stage + 4 * size p.now (B.standing basis.old).stage) }
+    ensures cost { (t : ℕ) → StandsAloneAfter p.now (B.standing basis.old) (col_of pick.col) pick.down t → steps.new ≤ steps.old + (1 + t) * (B.unit p.now (B.standing basis.old).stage + 4 * size p.now (B.standing basis.old).stage) }
 {
-    // It stands at a bound: no column of a problem is without one.
-    let _place = basis.state().place(entering);
-    let answer = limit(p, basis, entering, &mut room.work, steps)?;
-    Ok(limited(entering, answer))
+    let answer = limit(p, basis, pick.col, pick.down, &mut room.work, steps)?;
+    Ok(limited(pick.col, answer))
 }
 
 // What is due by the ratio test's answer.

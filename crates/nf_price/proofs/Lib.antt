@@ -1,4 +1,5 @@
 pub mod CostFacts
 pub mod ScanFacts
 pub mod ChoiceFacts
+pub mod LevelFacts
 pub mod SignFacts

@@ -1,4 +1,5 @@
 pub mod Rules
 pub mod Choice
+pub mod Level
 pub mod Wanted
 pub mod Cost

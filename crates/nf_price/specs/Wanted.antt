@@ -6,11 +6,12 @@ use Rattle.nf_model.specs.Program.{LinearProgram, at}
 use Rattle.nf_simplex.specs.Columns.{col_at, col_lower, col_upper, ones, twos}
 use Rattle.nf_simplex.specs.Layout.{layout_of}
 use Rattle.nf_simplex.specs.Numbers.{reduced}
+use Rattle.nf_simplex.specs.Objective.{Improves}
 use Rattle.nf_simplex.specs.Pricing.{Rule, IsMagnitude, IsPickedBy, WantsOne, WantsTwo}
 use Rattle.nf_simplex.specs.Standing.{Standing, place_at, stage_of}
 use Rattle.nf_basis.specs.declared.col.Phase.{Phase}
 use Rattle.nf_basis.specs.declared.col.Phase.TheVariants.{One, Two}
-use Rattle.nf_price.specs.declared.scan.Candidate.{Candidate}
+use Rattle.nf_price.specs.declared.candidate.Candidate.{Candidate}
 
 -- The column with a number does not have two equal bounds.
 abbrev pub BoundsDiffer : LinearProgram → ℕ → Type 0
@@ -38,18 +39,28 @@ WantsNoneIn p s phase y1 y2 from to = (i : ℕ) → from ≤ i → i < to → Wa
 abbrev pub WantsNone : LinearProgram → Standing → Phase → List ℚ → List ℚ → Type 0
 WantsNone p s phase y1 y2 = (i : ℕ) → Wants p s phase y1 y2 i → ⊥
 
--- Column j is the first one from `from` on that a phase wants.
-pub record IsFirstWanted (p : LinearProgram) (s : Standing) (phase : Phase) (y1 y2 : List ℚ) (from j : ℕ) : Type 0 where
-  pub wanted : Wants p s phase y1 y2 j
-  pub behind : from ≤ j
-  pub before : WantsNoneIn p s phase y1 y2 from j
+-- The candidate has number j, and the size and the direction that a reduced cost d gives.
+pub record IsMoveBy (j : ℕ) (d : ℚ) (c : Candidate) : Type 0 where
+  pub number : c.number ≡ j
+  pub size : IsMagnitude d c.size
+  pub down : Improves c.down d
+
+-- A phase wants the candidate's column, and its reduced cost in the phase gives the size and the direction.
+pub record IsCandidate (p : LinearProgram) (s : Standing) (phase : Phase) (y1 y2 : List ℚ) (c : Candidate) : Type 0 where
+  pub wanted : Wants p s phase y1 y2 c.number
+  pub moves : IsMoveBy c.number (cost_in p s phase y1 y2 c.number) c
+
+-- The candidate is the first one from `from` on that a phase wants.
+pub record IsFirstWanted (p : LinearProgram) (s : Standing) (phase : Phase) (y1 y2 : List ℚ) (from : ℕ) (c : Candidate) : Type 0 where
+  pub candidate : IsCandidate p s phase y1 y2 c
+  pub behind : from ≤ c.number
+  pub before : WantsNoneIn p s phase y1 y2 from c.number
 
 -- Of the columns below n that a phase wants, the candidate has the greatest magnitude, and of equal ones the least
 -- number.
 pub record IsGreatestBelow (p : LinearProgram) (s : Standing) (phase : Phase) (y1 y2 : List ℚ) (n : ℕ) (c : Candidate) : Type 0 where
-  pub wanted : Wants p s phase y1 y2 c.number
+  pub candidate : IsCandidate p s phase y1 y2 c
   pub below : c.number < n
-  pub size : HasMagnitude p s phase y1 y2 c.number c.size
   pub greatest : (i : ℕ) (a : ℚ) → i < n → Wants p s phase y1 y2 i → HasMagnitude p s phase y1 y2 i a → (a <ℚ c.size) ⊎ ((a ≡ c.size) × (c.number ≤ i))
 
 -- The best of the columns below n, if a phase wants any.
@@ -57,10 +68,10 @@ abbrev pub IsBestBelow : LinearProgram → Standing → Phase → List ℚ → L
 IsBestBelow p s phase y1 y2 n None = WantsNoneIn p s phase y1 y2 0 n
 IsBestBelow p s phase y1 y2 n (Some c) = IsGreatestBelow p s phase y1 y2 n c
 
--- Column j is the one that the rule picks of those that a phase wants.
-pub record IsChosen (p : LinearProgram) (s : Standing) (phase : Phase) (y1 y2 : List ℚ) (rule : Rule) (cursor j : ℕ) : Type 0 where
-  pub wanted : Wants p s phase y1 y2 j
-  pub by_rule : IsPickedBy rule cursor (Wants p s phase y1 y2) (HasMagnitude p s phase y1 y2) j
+-- The candidate is the one that the rule picks of those that a phase wants.
+pub record IsChosen (p : LinearProgram) (s : Standing) (phase : Phase) (y1 y2 : List ℚ) (rule : Rule) (cursor : ℕ) (c : Candidate) : Type 0 where
+  pub candidate : IsCandidate p s phase y1 y2 c
+  pub by_rule : IsPickedBy rule cursor (Wants p s phase y1 y2) (HasMagnitude p s phase y1 y2) c.number
 
 -- Of the candidate so far and the next one, the next one where it is greater.
 abbrev pub IsBetter : Option Candidate → Candidate → Option Candidate → Type 0

@@ -7,6 +7,7 @@ ghost use Rattle.nf_duals.specs.Priced.{HasDuals, count_priced};
 ghost use Rattle.nf_price.specs.Cost.{paid};
 ghost use Rattle.nf_price.specs.Wanted.{IsBestBelow, IsBetter, IsFirstWanted, WantsNoneIn};
 
+use crate::candidate::Candidate;
 use crate::wanted::wanted;
 use nf_basis::{Phase, State};
 use nf_duals::priced_columns;
@@ -14,13 +15,6 @@ use nf_frac::{Frac, Passed, Steps};
 use nf_prob::Problem;
 use std::cmp::Ordering;
 use std::sync::ledger::Ledger;
-
-// A column that a phase wants, by number, and the magnitude of its reduced cost.
-#[derive(Clone, Copy)]
-pub(crate) struct Candidate {
-    pub(crate) number: u32,
-    pub(crate) size: Frac,
-}
 
 // The first column from number `from` on and below `to` that a phase wants.
 pub(crate) fn first_wanted<L: Ledger>(
@@ -32,21 +26,21 @@ pub(crate) fn first_wanted<L: Ledger>(
     from: u32,
     to: u32,
     steps: &mut Steps<L>,
-) -> Result<Option<u32>, Passed>
+) -> Result<Option<Candidate>, Passed>
     requires state { IsStateOf p.now state.now }
     requires one { HasDuals p.now state.now.standing Phase.One one.now }
     requires two { HasDuals p.now state.now.standing Phase.Two two.now }
     requires within { to ≤ count_priced p.now }
     requires forward { from ≤ to }
     ensures some { IfOk result (λ r. IfSome r (IsFirstWanted p.now state.now.standing phase one.now two.now from)) }
-    ensures inside { IfOk result (λ r. IfSome r (λ k. k < to)) }
+    ensures inside { IfOk result (λ r. IfSome r (λ c. c.number < to)) }
     ensures none { IfOk result (λ r. IfNone r (WantsNoneIn p.now state.now.standing phase one.now two.now from to)) }
     ensures passed { IfErr result (PassesIn (StateTerms p.now state.now.standing)) }
     ensures cost { steps.new + paid p.now phase from ≤ steps.old + paid p.now phase to }
 {
     for k in from..to {
-        if let Some(_size) = wanted(p, state, phase, one, two, k, steps)? {
-            return Ok(Some(k));
+        if let Some(first) = wanted(p, state, phase, one, two, k, steps)? {
+            return Ok(Some(first));
         }
     }
     Ok(None)
@@ -70,8 +64,8 @@ pub(crate) fn greatest_wanted<L: Ledger>(
 {
     let mut best = None;
     for k in 0..priced_columns(p) {
-        if let Some(size) = wanted(p, state, phase, one, two, k, steps)? {
-            best = better(best, Candidate { number: k, size });
+        if let Some(next) = wanted(p, state, phase, one, two, k, steps)? {
+            best = better(best, next);
         }
     }
     Ok(best)

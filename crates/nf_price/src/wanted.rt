@@ -2,22 +2,22 @@
 ghost use Rattle.std.specs.Prelude.{◌≡◌, ◌+◌, ◌<◌, ◌≤◌, ◌↔◌, IfOk, IfErr, IfNone, IfSome, IsTrue};
 ghost use Rattle.nf_num.specs.Rational.{ℚ};
 ghost use Rattle.nf_sums.specs.Terms.{PassesIn};
-ghost use Rattle.nf_simplex.specs.Pricing.{HasWrongSign, IsMagnitude};
+ghost use Rattle.nf_simplex.specs.Pricing.{HasWrongSign};
 ghost use Rattle.nf_basis.specs.Arising.{StateTerms};
 ghost use Rattle.nf_basis.specs.Kept.{IsStateOf};
 ghost use Rattle.nf_basis.specs.Names.{place_of};
 ghost use Rattle.nf_duals.specs.Priced.{HasDuals, count_priced, price};
 ghost use Rattle.nf_price.specs.Cost.{price_in};
-ghost use Rattle.nf_price.specs.Wanted.{BoundsDiffer, HasMagnitude, Wants};
+ghost use Rattle.nf_price.specs.Wanted.{BoundsDiffer, IsCandidate, Wants};
 
+use crate::candidate::Candidate;
 use nf_basis::{Phase, Place, State};
 use nf_duals::{phase_cost, priced_place};
 use nf_frac::{Frac, Passed, Steps};
 use nf_prob::Problem;
-use std::cmp::Ordering;
 use std::sync::ledger::Ledger;
 
-// The magnitude of the reduced cost of the column with a number, where a phase wants it to enter.
+// The column with a number, where a phase wants it to enter.
 pub(crate) fn wanted<L: Ledger>(
     p: &Problem,
     state: &State,
@@ -26,13 +26,13 @@ pub(crate) fn wanted<L: Ledger>(
     two: &[Frac],
     k: u32,
     steps: &mut Steps<L>,
-) -> Result<Option<Frac>, Passed>
+) -> Result<Option<Candidate>, Passed>
     requires state { IsStateOf p.now state.now }
     requires one { HasDuals p.now state.now.standing Phase.One one.now }
     requires two { HasDuals p.now state.now.standing Phase.Two two.now }
     requires within { k < count_priced p.now }
-    ensures wanted { IfOk result (λ r. IfSome r (λ a. Wants p.now state.now.standing phase one.now two.now k)) }
-    ensures size { IfOk result (λ r. IfSome r (HasMagnitude p.now state.now.standing phase one.now two.now k)) }
+    ensures some { IfOk result (λ r. IfSome r (IsCandidate p.now state.now.standing phase one.now two.now)) }
+    ensures number { IfOk result (λ r. IfSome r (λ c. c.number ≡ k)) }
     ensures none { IfOk result (λ r. IfNone r (Wants p.now state.now.standing phase one.now two.now k → ⊥)) }
     ensures passed { IfErr result (PassesIn (StateTerms p.now state.now.standing)) }
     ensures cost { steps.new ≤ steps.old + price_in p.now phase k }
@@ -50,12 +50,12 @@ fn wanted_one<L: Ledger>(
     two: &[Frac],
     k: u32,
     steps: &mut Steps<L>,
-) -> Result<Option<Frac>, Passed>
+) -> Result<Option<Candidate>, Passed>
     requires state { IsStateOf p.now state.now }
     requires one { HasDuals p.now state.now.standing Phase.One one.now }
     requires within { k < count_priced p.now }
-    ensures wanted { IfOk result (λ r. IfSome r (λ a. Wants p.now state.now.standing Phase.One one.now two.now k)) }
-    ensures size { IfOk result (λ r. IfSome r (HasMagnitude p.now state.now.standing Phase.One one.now two.now k)) }
+    ensures some { IfOk result (λ r. IfSome r (IsCandidate p.now state.now.standing Phase.One one.now two.now)) }
+    ensures number { IfOk result (λ r. IfSome r (λ c. c.number ≡ k)) }
     ensures none { IfOk result (λ r. IfNone r (Wants p.now state.now.standing Phase.One one.now two.now k → ⊥)) }
     ensures passed { IfErr result (PassesIn (StateTerms p.now state.now.standing)) }
     ensures cost { steps.new ≤ steps.old + price p.now k }
@@ -65,7 +65,7 @@ fn wanted_one<L: Ledger>(
         return Ok(None);
     }
     let d = phase_cost(p, Phase::One, k, one, steps)?;
-    Ok(wrong_size(place, d))
+    Ok(Candidate::of(k, place, d))
 }
 
 fn wanted_two<L: Ledger>(
@@ -75,13 +75,13 @@ fn wanted_two<L: Ledger>(
     two: &[Frac],
     k: u32,
     steps: &mut Steps<L>,
-) -> Result<Option<Frac>, Passed>
+) -> Result<Option<Candidate>, Passed>
     requires state { IsStateOf p.now state.now }
     requires one { HasDuals p.now state.now.standing Phase.One one.now }
     requires two { HasDuals p.now state.now.standing Phase.Two two.now }
     requires within { k < count_priced p.now }
-    ensures wanted { IfOk result (λ r. IfSome r (λ a. Wants p.now state.now.standing Phase.Two one.now two.now k)) }
-    ensures size { IfOk result (λ r. IfSome r (HasMagnitude p.now state.now.standing Phase.Two one.now two.now k)) }
+    ensures some { IfOk result (λ r. IfSome r (IsCandidate p.now state.now.standing Phase.Two one.now two.now)) }
+    ensures number { IfOk result (λ r. IfSome r (λ c. c.number ≡ k)) }
     ensures none { IfOk result (λ r. IfNone r (Wants p.now state.now.standing Phase.Two one.now two.now k → ⊥)) }
     ensures passed { IfErr result (PassesIn (StateTerms p.now state.now.standing)) }
     ensures cost { steps.new ≤ steps.old + (price p.now k + price p.now k) }
@@ -90,12 +90,15 @@ fn wanted_two<L: Ledger>(
     if !may_enter(p, place, k) {
         return Ok(None);
     }
+    let d = phase_cost(p, Phase::Two, k, two, steps)?;
+    let Some(found) = Candidate::of(k, place, d) else {
+        return Ok(None);
+    };
     let first = phase_cost(p, Phase::One, k, one, steps)?;
     if first != Frac::zero() {
         return Ok(None);
     }
-    let d = phase_cost(p, Phase::Two, k, two, steps)?;
-    Ok(wrong_size(place, d))
+    Ok(Some(found))
 }
 
 // Whether the column with a number, which stands here, is nonbasic and without two equal bounds.
@@ -105,7 +108,7 @@ fn may_enter(p: &Problem, place: Place, k: u32) -> bool
     ensures no { (IsTrue result → ⊥) → (d : ℚ) → BoundsDiffer p.now k → HasWrongSign (place_of place) d → ⊥ }
 {
     match place {
-        Place::Lower | Place::Upper => bounds_differ(p, k),
+        Place::Lower | Place::Upper | Place::Zero => bounds_differ(p, k),
         Place::Basic | Place::Absent => false,
     }
 }
@@ -118,28 +121,8 @@ fn bounds_differ(p: &Problem, k: u32) -> bool
     if k >= p.columns() {
         return true;
     }
-    match p.upper(k + 1) {
-        None => true,
-        Some(upper) => p.lower(k + 1) != upper,
-    }
-}
-
-// The magnitude of the reduced cost of a column that stands here, where it has the wrong sign.
-fn wrong_size(place: Place, d: Frac) -> Option<Frac>
-    ensures wrong { IfSome result (λ a. HasWrongSign (place_of place) d) }
-    ensures size { IfSome result (IsMagnitude d) }
-    ensures right { IfNone result (HasWrongSign (place_of place) d → ⊥) }
-{
-    let sign = d.sign();
-    match place {
-        Place::Lower => match sign {
-            Ordering::Less => Some(d.neg()),
-            Ordering::Equal | Ordering::Greater => None,
-        },
-        Place::Upper => match sign {
-            Ordering::Less | Ordering::Equal => None,
-            Ordering::Greater => Some(d),
-        },
-        Place::Basic | Place::Absent => None,
+    match (p.lower(k + 1), p.upper(k + 1)) {
+        (Some(lower), Some(upper)) => lower != upper,
+        _ => true,
     }
 }

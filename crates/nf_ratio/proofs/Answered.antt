@@ -2,7 +2,6 @@
 use Rattle.std.proofs.Common.{◌≡◌, ◌≢◌, ℕ, ◌<◌, ◌≤◌, inl, inr, Bool, true, false, List, length, Option, Some, None, refl, sym, ap, ◌∙◌, subst, arith}
 use Rattle.nf_num.specs.Rational.{ℚ}
 use Rattle.nf_model.specs.Program.{LinearProgram, at}
-use Rattle.nf_simplex.specs.Place as model
 use Rattle.nf_simplex.specs.Moves.{HasNoNext}
 use Rattle.nf_simplex.specs.Standing.{Standing, place_at, stage_of, rows_of}
 use Rattle.nf_simplex.proofs.Basis.{weights_unique}
@@ -11,10 +10,10 @@ use Rattle.nf_simplex.proofs.Moving.{leave_next, flip_next, no_next}
 use Rattle.nf_basis.specs.declared.col.Col.{Col}
 use Rattle.nf_basis.specs.declared.col.Place as place
 use Rattle.nf_basis.specs.Names.{col_of, place_of}
-use Rattle.nf_basis.specs.Kept.{Kept, IsBoundOf, IsPresent, IsStateOf, number, place_in}
+use Rattle.nf_basis.specs.Kept.{IsBoundOf, IsPresent, number}
 use Rattle.nf_basis.specs.Numbers.{AreEntriesBySlot, IsSound, in_slot, slot_number}
 use Rattle.nf_ratio.specs.declared.answer.Limit.{Limit}
-use Rattle.nf_ratio.specs.Answer.{CanMove, Flips, IsLimitOf, LeavesAt, moves_down}
+use Rattle.nf_ratio.specs.Answer.{CanMove, Flips, IsLimitOf, LeavesAt}
 use Rattle.nf_ratio.specs.Loops.{HasLeast, IsAnswer, IsFree, IsWinner, numbers_by, place_ahead}
 use Rattle.nf_ratio.specs.Ratios.{IsTowards, Limits, Meets, Spans, bound_on, rate}
 use Rattle.nf_ratio.proofs.Causes.{lower_is, upper_is}
@@ -28,22 +27,13 @@ side_place : (up : Bool) → place_of (side up) ≡ bound_place up
 side_place true = refl
 side_place false = refl
 
--- The direction is told by where the column stands.
-pub down_is : (p : LinearProgram) (s : Standing) (slots : List Col) (x : ℕ → ℚ) → IsSound p s slots x → (k : Kept) → k.standing ≡ s → IsStateOf p k → (c : Col) → IsPresent p s c → (r : place.Place)
-    → ((q : LinearProgram) → IsStateOf q k → IsPresent q k.standing c → place_of r ≡ place_in q k.standing c) → (d : Bool) → d ≡ model.goes_down (place_of r) → moves_down p s c ≡ d
-down_is p s slots x sound k is state c here r told d down =
-    ap (λ t. model.goes_down (place_in p t c)) (sym is) ∙ (ap model.goes_down (sym (told p state (subst (λ t. IsPresent p t c) (sym is) here))) ∙ sym down)
-
-module _ (p : LinearProgram) (s : Standing) (slots : List Col) (x : ℕ → ℚ) (sound : IsSound p s slots x) (c : Col) (can : CanMove p s c) (entries : List ℚ) (are : AreEntriesBySlot p s slots c entries) where
-  abbrev down : Bool
-  down = moves_down p s c
-
+module _ (p : LinearProgram) (s : Standing) (slots : List Col) (x : ℕ → ℚ) (sound : IsSound p s slots x) (c : Col) (down : Bool) (can : CanMove p s c down) (entries : List ℚ) (are : AreEntriesBySlot p s slots c entries) where
   is_bound : (d : Col) → IsPresent p s d → (up : Bool) (b : ℚ) → bound_on (stage_of p s) up (number p d) ≡ Some b → IsBoundOf p d (bound_place up)
   is_bound d h true b e = (tt, some_not_none _ b (sym (upper_is p s slots x sound d h) ∙ e))
   is_bound d h false b e = (tt, some_not_none _ b (sym (lower_is p s slots x sound d h) ∙ e))
 
   -- The column in the slot of the least ratio leaves.
-  leaves : (i : ℕ) → i < rows_of p s → (l : HasLeast p s slots c down i) (t : Meets p s (col_of c) down (numbers_by p s (col_of c) l.feasible l.entries l.are_entries) (slot_number p slots i) l.ratio) → LeavesAt p s slots c i (bound_place t.up)
+  leaves : (i : ℕ) → i < rows_of p s → (l : HasLeast p s slots c down i) (t : Meets p s (col_of c) down (numbers_by p s (col_of c) l.feasible l.entries l.are_entries) (slot_number p slots i) l.ratio) → LeavesAt p s slots c down i (bound_place t.up)
   leaves i h l t = record {
     within = h;
     entry = λ w are z. towards_not_zero t.up down (l.entries (slot_number p slots i)) t.towards (weights_unique (stage_of p s) (place_at s) _ l.entries w sound.basis.independent l.are_entries are (slot_number p slots i) t.within ∙ z);
@@ -53,7 +43,7 @@ module _ (p : LinearProgram) (s : Standing) (slots : List Col) (x : ℕ → ℚ)
   }
 
   -- The entering column flips.
-  flips : (i : ℕ) (l : HasLeast p s slots c down i) → Spans p s (col_of c) l.ratio → Flips p s c
+  flips : (i : ℕ) (l : HasLeast p s slots c down i) → Spans p s (col_of c) l.ratio → Flips p s c down
   flips i l t = record {
     can = record {
       nonbasic = can.nonbasic;
@@ -83,9 +73,9 @@ module _ (p : LinearProgram) (s : Standing) (slots : List Col) (x : ℕ → ℚ)
       of (inr (e, t)) = t
 
   -- The answer by a place.
-  pub answered : (r : Option ℕ) (a : Limit) → length entries ≡ rows_of p s → IsWinner p s slots c down r → IsAnswer down entries r a → IsLimitOf p s slots c a
-  answered None a long w e = subst (IsLimitOf p s slots c) (sym e) (free w)
-  answered (Some i) a long w (inl (at_end, e)) = subst (IsLimitOf p s slots c) (sym e) (flips i w (spans i (let z : length slots ≡ i = sound.listed.as_many ∙ (sym long ∙ sym at_end) in omega arith) w))
+  pub answered : (r : Option ℕ) (a : Limit) → length entries ≡ rows_of p s → IsWinner p s slots c down r → IsAnswer down entries r a → IsLimitOf p s slots c down a
+  answered None a long w e = subst (IsLimitOf p s slots c down) (sym e) (free w)
+  answered (Some i) a long w (inl (at_end, e)) = subst (IsLimitOf p s slots c down) (sym e) (flips i w (spans i (let z : length slots ≡ i = sound.listed.as_many ∙ (sym long ∙ sym at_end) in omega arith) w))
   answered (Some i) a long w (inr (h, e)) = of (place_ahead down (at entries i)) refl (ahead down (at entries i))
     where
       here : i < rows_of p s
@@ -97,8 +87,8 @@ module _ (p : LinearProgram) (s : Standing) (slots : List Col) (x : ℕ → ℚ)
       entry : at entries i ≡ w.entries (slot_number p slots i)
       entry = are.by_slot i here ∙ weights_unique (stage_of p s) (place_at s) _ are.weights w.entries sound.basis.independent are.are_weights w.are_entries (slot_number p slots i) t.within
 
-      of : (o : Option place.Place) → place_ahead down (at entries i) ≡ o → Ahead down (at entries i) o → IsLimitOf p s slots c a
+      of : (o : Option place.Place) → place_ahead down (at entries i) ≡ o → Ahead down (at entries i) o → IsLimitOf p s slots c down a
       of None q (stands z) = absurd (towards_not_zero t.up down (w.entries (slot_number p slots i)) t.towards (sym entry ∙ z))
       of (Some b) q (moves up r z) =
-          subst (IsLimitOf p s slots c) (sym (e (side up) q))
-          (subst (LeavesAt p s slots c i) (ap bound_place (one_side t.up up (rate down (at entries i)) (subst (λ u. IsTowards t.up (rate down u)) (sym entry) t.towards) r) ∙ sym (side_place up)) (leaves i here w t))
+          subst (IsLimitOf p s slots c down) (sym (e (side up) q))
+          (subst (LeavesAt p s slots c down i) (ap bound_place (one_side t.up up (rate down (at entries i)) (subst (λ u. IsTowards t.up (rate down u)) (sym entry) t.towards) r) ∙ sym (side_place up)) (leaves i here w t))

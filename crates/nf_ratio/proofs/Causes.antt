@@ -12,15 +12,15 @@ use Rattle.nf_simplex.specs.Standing.{Standing, stage_of, rows_of}
 use Rattle.nf_simplex.proofs.Numbered.{col_number, number_within}
 use Rattle.nf_basis.specs.declared.col.Col.{Col}
 use Rattle.nf_basis.specs.declared.col.Place.{Place}
-use Rattle.nf_basis.specs.declared.col.Place.TheVariants.{Lower, Upper, Basic, Absent}
+use Rattle.nf_basis.specs.declared.col.Place.TheVariants.{Lower, Upper, Zero, Basic, Absent}
 use Rattle.nf_basis.specs.Names.{col_of}
 use Rattle.nf_basis.specs.Kept.{IsPresent, number}
 use Rattle.nf_basis.specs.Numbers.{AreEntriesBySlot, IsInverseColumnBySlot, IsSound, in_slot, slot_number}
 use Rattle.nf_basis.specs.Arising.{StateTerms, count_columns, IsBoundAt, IsPivotAt}
 use Rattle.nf_basis.specs.Arising.StateTerms.{ratio as ratio_row, ratio_distance, distance}
 use Rattle.nf_basis.specs.Arising.IsChange.{value as value_changed, weight as weight_changed}
-use Rattle.nf_ratio.specs.Loops.{bound_at, NextTerms}
-use Rattle.nf_ratio.specs.Ties.{ratio_in}
+use Rattle.nf_ratio.specs.Loops.{bound_at, WeightTerms}
+use Rattle.nf_ratio.specs.Ties.{tie}
 
 module _ (p : LinearProgram) (s : Standing) (slots : List Col) (x : ℕ → ℚ) (sound : IsSound p s slots x) where
   -- the bounds of a present column are those of its number
@@ -33,6 +33,7 @@ module _ (p : LinearProgram) (s : Standing) (slots : List Col) (x : ℕ → ℚ)
   pub bound_is : (c : Col) → IsPresent p s c → (a : Place) (b : ℚ) → bound_at p c a ≡ Some b → IsBoundAt p s (number p c) b
   bound_is c h Lower b e = inl (lower_is c h ∙ e)
   bound_is c h Upper b e = inr (upper_is c h ∙ e)
+  bound_is c h Zero b e = absurd (let z : None ≡ Some b = e in cc)
   bound_is c h Basic b e = absurd (let z : None ≡ Some b = e in cc)
   bound_is c h Absent b e = absurd (let z : None ≡ Some b = e in cc)
 
@@ -80,12 +81,13 @@ module _ (p : LinearProgram) (s : Standing) (slots : List Col) (x : ℕ → ℚ)
       (λ t z. subst (StateTerms p s) (sym z) (distance (number p c) l u (number_within (layout_of p) s.stage (col_of c) sound.problem.arcs_within here.1) (lower_is p s slots x sound c here ∙ a) (upper_is p s slots x sound c here ∙ b))) q
 
   -- ratios of weights
-  pub next_passed : (entries weights : List ℚ) (ratios : List (Option ℚ)) (row : ℕ) → AreEntriesBySlot p s slots c entries → IsInverseColumnBySlot p s slots row weights → 0 < row → row ≤ rows_of p s → length entries ≡ rows_of p s
-      → ((i : ℕ) → i < length entries → ratio_in ratios i ≢ None → at entries i ≢ zero_ℚ) → (e : Passed) → PassesIn (NextTerms entries weights ratios) e → PassesIn (StateTerms p s) e
-  next_passed entries weights ratios row are inv some few long pivot e q = wider (NextTerms entries weights ratios) (StateTerms p s) e (λ t z. of t z) q
+  pub weights_passed : (entries weights : List ℚ) (ts : List ℕ) (n row : ℕ) → AreEntriesBySlot p s slots c entries → IsInverseColumnBySlot p s slots row weights → 0 < row → row ≤ rows_of p s → length entries ≡ rows_of p s
+      → ((k : ℕ) → k < n → tie ts k < length entries → at entries (tie ts k) ≢ zero_ℚ) → (e : Passed) → PassesIn (WeightTerms entries weights ts n) e → PassesIn (StateTerms p s) e
+  weights_passed entries weights ts n row are inv some few long pivot e q = wider (WeightTerms entries weights ts n) (StateTerms p s) e (λ t z. of t z) q
     where
-      of : (t : Terms) → NextTerms entries weights ratios t → StateTerms p s t
-      of t (i, h, there, z) =
-          let g : i < rows_of p s = subst (λ k. i < k) long h in
+      of : (t : Terms) → WeightTerms entries weights ts n t → StateTerms p s t
+      of t (k, h, there, z) =
+          let i : ℕ = tie ts k in
+          let g : i < rows_of p s = subst (λ m. i < m) long there in
           subst (StateTerms p s) (sym (z ∙ ap (quotient_terms (at weights i)) (are.by_slot i g)))
-          (ratio_row (col_of c) (slot_number p slots i) are.weights (at weights i) (pivot_at p s slots x sound c here entries are i g (pivot i h there)) (weight_changed (at weights i) (slot_within p s slots x sound i g, row - 1, inv.weights, (let a : row - 1 < rows_of p s = omega arith in a), inv.are_weights, inv.by_slot i g)))
+          (ratio_row (col_of c) (slot_number p slots i) are.weights (at weights i) (pivot_at p s slots x sound c here entries are i g (pivot k h there)) (weight_changed (at weights i) (slot_within p s slots x sound i g, row - 1, inv.weights, (let a : row - 1 < rows_of p s = omega arith in a), inv.are_weights, inv.by_slot i g)))

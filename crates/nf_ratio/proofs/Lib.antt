@@ -1,9 +1,9 @@
-mod Least
+mod Offers
+mod First
 mod Signs
 mod Causes
 mod Sizes
-mod Ties
-mod Lists
+mod Tied
 mod Winner
 mod Steps
 mod Looking

@@ -59,8 +59,8 @@ one_times t u = grind arith
 pub column_cost : (old now t u w : ℕ) → now ≤ old + u → now ≤ old + (1 + t) * (u + 4 * w)
 column_cost old now t u w h = let e : (1 + t) * (u + 4 * w) ≡ u + 4 * w + t * (u + 4 * w) = one_times t (u + 4 * w) in omega (arith, e)
 
-pub test_cost : (old now later m t u w : ℕ) → now ≤ old + u → m < w → later ≤ now + (1 + 2 * m + t * (u + m)) → later ≤ old + (1 + t) * (u + 4 * w)
+pub test_cost : (old now later m t u w : ℕ) → now ≤ old + u → m < w → later ≤ now + (1 + 2 * m + t * (u + suc m)) → later ≤ old + (1 + t) * (u + 4 * w)
 test_cost old now later m t u w h small g =
     let e : (1 + t) * (u + 4 * w) ≡ u + 4 * w + t * (u + 4 * w) = one_times t (u + 4 * w) in
-    let l : t * (u + m) ≤ t * (u + 4 * w) = mul-le-mul_left t (omega arith) in
+    let l : t * (u + suc m) ≤ t * (u + 4 * w) = mul-le-mul_left t (omega arith) in
     omega (arith, e, l)

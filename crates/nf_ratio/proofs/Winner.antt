@@ -5,8 +5,7 @@ use Rattle.nf_num.proofs.Laws.{zero_of_numer, mul_assoc, mul_inv}
 use Rattle.nf_simplex.proofs.FieldLaws.{mul-one}
 use Rattle.nf_simplex.proofs.Basis.{weights_unique}
 use Rattle.nf_simplex.proofs.Numbered.{number_within}
-use Rattle.nf_ratio.proofs.Least.{not_both_ways, some_none, some_same}
-use Rattle.nf_ratio.proofs.Ties.{there_or_none}
+use Rattle.nf_ratio.proofs.Offers.{both_ways, some_none, some_same, there_or_none}
 use Rattle.nf_num.proofs.Order.{lt_irrefl}
 use Rattle.nf_num.proofs.Linear.{linear_lt, lt}
 use Rattle.nf_num.proofs.Linear as linear
@@ -102,8 +101,8 @@ towards_not_zero false down w h e = not_zero_below (rate down w) h (still down w
 pub one_side : (up on : Bool) (r : ℚ) → IsTowards up r → IsTowards on r → up ≡ on
 one_side true true r a b = refl
 one_side false false r a b = refl
-one_side true false r a b = absurd (not_both_ways zero_ℚ r a b)
-one_side false true r a b = absurd (not_both_ways r zero_ℚ a b)
+one_side true false r a b = absurd (both_ways zero_ℚ r a b)
+one_side false true r a b = absurd (both_ways r zero_ℚ a b)
 
 -- The bound ahead of the column in a slot.
 abbrev pub slot_bound : LinearProgram → List Col → Bool → List ℚ → ℕ → Option ℚ

@@ -1,5 +1,5 @@
--- What the functions below `limit` compute: bounds ahead, ratios by slot with the entering column's own behind them, and
--- the one that is the least.
+-- What the functions below `limit` compute: bounds ahead, ratios by place, which are the slots and then the entering
+-- column itself, and the one that is the least.
 -- `limit` rests on them.
 use Rattle.std.specs.Prelude.{◌≡◌, ◌≢◌, ℕ, suc, zero, ◌<◌, ◌≤◌, ◌⊎◌, Bool, List, length, Option, Some, None, option_map, pos, negsuc, ℤ, nat_lt, if◌then◌else◌}
 use Rattle.nf_num.specs.Rational.{ℚ, zero_ℚ, numer, ◌-ℚ◌, ◌*ℚ◌, inv_ℚ}
@@ -15,14 +15,14 @@ use Rattle.nf_simplex.specs.Standing.{Standing, rows_of, AreEntriesOf, IsFeasibl
 use Rattle.nf_basis.specs.declared.col.Col.{Col}
 use Rattle.nf_basis.specs.declared.col.Col.TheVariants.{Given, Slack, Artificial}
 use Rattle.nf_basis.specs.declared.col.Place.{Place}
-use Rattle.nf_basis.specs.declared.col.Place.TheVariants.{Lower, Upper, Basic, Absent}
+use Rattle.nf_basis.specs.declared.col.Place.TheVariants.{Lower, Upper, Zero, Basic, Absent}
 use Rattle.nf_basis.specs.Names.{col_of}
 use Rattle.nf_basis.specs.Kept.{number}
 use Rattle.nf_basis.specs.Numbers.{in_slot, slot_number}
 use Rattle.nf_ratio.specs.declared.answer.Limit.{Limit}
 use Rattle.nf_ratio.specs.declared.answer.Limit.TheVariants.{Leave, Flip, Ray}
 use Rattle.nf_ratio.specs.Ratios.{MoveNumbers, Limits, IsLeastIn}
-use Rattle.nf_ratio.specs.Ties.{ratio_in}
+use Rattle.nf_ratio.specs.Ties.{tie}
 
 -- ---- bounds
 -- The bound to which a basic column moves whose entry has this numerator.
@@ -45,6 +45,7 @@ IsColumnOf p (Artificial i) = Unit {0}
 abbrev pub bound_at : LinearProgram → Col → Place → Option ℚ
 bound_at p c Lower = col_lower (layout_of p) (col_of c)
 bound_at p c Upper = col_upper (layout_of p) (col_of c)
+bound_at p c Zero = None
 bound_at p c Basic = None
 bound_at p c Absent = None
 
@@ -72,16 +73,17 @@ distance_of (Some l) (Some u) = Some (u -ℚ l)
 abbrev pub span_of : LinearProgram → Col → Option ℚ
 span_of p c = distance_of (col_lower (layout_of p) (col_of c)) (col_upper (layout_of p) (col_of c))
 
--- The ratios of the weights in an inverse column, at the places that have a ratio: so many entries, and 0 in the last
--- place.
-pub record AreNextRatios (down : Bool) (entries weights : List ℚ) (before after : List (Option ℚ)) : Type 0 where
-  pub as_many : length after ≡ length before
-  pub each : (i : ℕ) → i < length entries → ratio_in after i ≡ option_map (λ _. turned down (at weights i) (at entries i)) (ratio_in before i)
-  pub last : ratio_in after (length entries) ≡ option_map (λ _. zero_ℚ) (ratio_in before (length entries))
+-- The ratio of the values in a place: that of a slot, and the distance of the entering column's bounds in the last one.
+abbrev pub value_ratio_at : LinearProgram → List Col → (ℕ → ℚ) → Col → Bool → List ℚ → ℕ → Option ℚ
+value_ratio_at p slots x c down entries i = if nat_lt i (length entries) then first_ratio p slots x down entries i else span_of p c
 
--- The quotients of which they are.
-abbrev pub NextTerms : List ℚ → List ℚ → List (Option ℚ) → Terms → Type 0
-NextTerms entries weights ratios t = (i : ℕ) × (i < length entries) × (ratio_in ratios i ≢ None) × (t ≡ quotient_terms (at weights i) (at entries i))
+-- The ratio of the weights in an inverse column in a place, which is 0 in the last one.
+abbrev pub weight_ratio_at : Bool → List ℚ → List ℚ → ℕ → ℚ
+weight_ratio_at down entries weights i = if nat_lt i (length entries) then turned down (at weights i) (at entries i) else zero_ℚ
+
+-- The quotients of which those in the first n places of a list are.
+abbrev pub WeightTerms : List ℚ → List ℚ → List ℕ → ℕ → Terms → Type 0
+WeightTerms entries weights ts n t = (k : ℕ) × (k < n) × (tie ts k < length entries) × (t ≡ quotient_terms (at weights (tie ts k)) (at entries (tie ts k)))
 
 -- ---- the least
 -- The column whose ratio stands in a place: the one in a slot, and the entering one in the last place.

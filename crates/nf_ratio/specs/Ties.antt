@@ -1,40 +1,53 @@
--- Lists of ratios, some of which are missing: the least of them, and what is left where only the least are kept.
+-- Lists of places that tie: of the candidates so far, the places of those whose ratio is the least.
 -- The loops of the ratio test promise it.
-use Rattle.std.specs.Prelude.{◌≡◌, ◌≢◌, ℕ, ◌<◌, ◌⊎◌, List, length, slice_index_or, Option, Some, None}
+use Rattle.std.specs.Prelude.{◌≡◌, ◌≢◌, ℕ, ◌+◌, ◌<◌, ◌≤◌, ◌⊎◌, List, set, slice_index_or, Option, Some, None}
+use Rattle.std.specs.declared.cmp.Ordering.{Ordering}
+use Rattle.std.specs.declared.cmp.Ordering.TheVariants.{Less}
 use Rattle.nf_num.specs.Rational.{ℚ, ◌<ℚ◌}
-use Rattle.nf_ratio.specs.declared.tie.Tie.{Tie}
-use Rattle.nf_ratio.specs.declared.tie.Tie.TheVariants.{Nobody, One, Several}
+use Rattle.nf_frac.specs.Compared.{IsOrder}
+use Rattle.nf_ratio.specs.declared.tie.Found.{Found}
 
--- The ratio in a place.
-abbrev pub ratio_in : List (Option ℚ) → ℕ → Option ℚ
-ratio_in xs i = slice_index_or xs i None
+-- The place with an index in a list of places.
+abbrev pub tie : List ℕ → ℕ → ℕ
+tie ts k = slice_index_or ts k 0
 
--- A list has no ratio.
-abbrev pub HasNone : List (Option ℚ) → Type 0
-HasNone xs = (i : ℕ) → i < length xs → ratio_in xs i ≡ None
+-- Place i is one of the first n of a list.
+abbrev pub IsAmong : List ℕ → ℕ → ℕ → Type 0
+IsAmong ts n i = (k : ℕ) × (k < n) × (tie ts k ≡ i)
 
--- v is the least ratio of a list.
-pub record IsLeastOf (xs : List (Option ℚ)) (v : ℚ) : Type 0 where
-  pub place : ℕ
-  pub within : place < length xs
-  pub there : ratio_in xs place ≡ Some v
-  pub least : (i : ℕ) (u : ℚ) → i < length xs → ratio_in xs i ≡ Some u → u <ℚ v → ⊥
+-- The first n places of a list rise.
+abbrev pub AreInOrder : List ℕ → ℕ → Type 0
+AreInOrder ts n = (k l : ℕ) → k < l → l < n → tie ts k < tie ts l
 
--- r is the lesser of a and b where both are there, and else the one that is.
-pub record IsLesser (a b r : Option ℚ) : Type 0 where
-  pub none : r ≡ None → (a ≡ None) × (b ≡ None)
-  pub some : (v : ℚ) → r ≡ Some v → (a ≡ Some v) ⊎ (b ≡ Some v)
-  pub left : (v u : ℚ) → r ≡ Some v → a ≡ Some u → u <ℚ v → ⊥
-  pub right : (v u : ℚ) → r ≡ Some v → b ≡ Some u → u <ℚ v → ⊥
+-- Of n candidates, each with a place and some with a ratio, the list has the places of those whose ratio is the least,
+-- in order.
+pub record AreLeast (place : ℕ → ℕ) (ratio : ℕ → Option ℚ) (n : ℕ) (ts : List ℕ) (f : Found) : Type 0 where
+  pub few : f.count ≤ n
+  pub some : (v : ℚ) → f.least ≡ Some v → (j : ℕ) × (j < n) × (ratio j ≡ Some v)
+  pub none : f.least ≡ None → (j : ℕ) → j < n → ratio j ≡ None
+  pub least : (j : ℕ) (u v : ℚ) → j < n → ratio j ≡ Some u → f.least ≡ Some v → u <ℚ v → ⊥
+  pub each : (k : ℕ) → k < f.count → (j : ℕ) × (j < n) × (tie ts k ≡ place j) × (ratio j ≢ None) × (ratio j ≡ f.least)
+  pub every : (j : ℕ) → j < n → ratio j ≢ None → ratio j ≡ f.least → IsAmong ts f.count (place j)
+  pub in_order : AreInOrder ts f.count
 
--- ys has the least ratios of xs in their places, and no other.
-pub record IsKept (xs ys : List (Option ℚ)) : Type 0 where
-  pub least : (i : ℕ) (v : ℚ) → i < length xs → ratio_in ys i ≡ Some v → (ratio_in xs i ≡ Some v) × ((k : ℕ) (u : ℚ) → k < length xs → ratio_in xs k ≡ Some u → u <ℚ v → ⊥)
-  pub taken_out : (i : ℕ) (v : ℚ) → i < length xs → ratio_in xs i ≡ Some v → ratio_in ys i ≡ None → (k : ℕ) (u : ℚ) → k < length xs → ratio_in ys k ≡ Some u → u <ℚ v
-  pub some : (i : ℕ) → i < length xs → ratio_in xs i ≢ None → (k : ℕ) × (k < length xs) × (ratio_in ys k ≢ None)
+-- How a ratio compares with the least so far: the first one is less.
+abbrev pub Compares : ℚ → Option ℚ → Ordering → Type 0
+Compares r None o = o ≡ Less
+Compares r (Some v) o = IsOrder o r v
 
--- How many of the first n places have a ratio: none, one alone, or more.
-abbrev pub IsFound : List (Option ℚ) → ℕ → Tie → Type 0
-IsFound xs n Nobody = (i : ℕ) → i < n → ratio_in xs i ≡ None
-IsFound xs n (One k) = (k < n) × (ratio_in xs k ≢ None) × ((i : ℕ) → i < n → ratio_in xs i ≢ None → i ≡ k)
-IsFound xs n Several = (i : ℕ) × (k : ℕ) × (i < n) × (k < n) × (i ≢ k) × (ratio_in xs i ≢ None) × (ratio_in xs k ≢ None)
+-- A ratio is less than the least so far, or the first one.
+abbrev pub IsBelow : ℚ → Option ℚ → Type 0
+IsBelow r None = Unit {0}
+IsBelow r (Some v) = r <ℚ v
+
+-- A place is offered with its ratio: it begins the list anew, joins it, or is left out.
+abbrev pub IsOffered : Found → List ℕ → ℕ → ℚ → Found → List ℕ → Type 0
+IsOffered f ts place r g us =
+    (IsBelow r f.least × (g ≡ record { count = 1; least = Some r }) × (us ≡ set ts 0 place))
+    ⊎ ((f.least ≡ Some r) × (g ≡ record { count = f.count + 1; least = Some r }) × (us ≡ set ts f.count place))
+    ⊎ ((v : ℚ) × (f.least ≡ Some v) × (v <ℚ r) × (g ≡ f) × (us ≡ ts))
+
+-- It is offered if it has a ratio.
+abbrev pub IsOfferedIf : Found → List ℕ → ℕ → Option ℚ → Found → List ℕ → Type 0
+IsOfferedIf f ts place None g us = (g ≡ f) × (us ≡ ts)
+IsOfferedIf f ts place (Some r) g us = IsOffered f ts place r g us

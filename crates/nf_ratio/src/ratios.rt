@@ -9,9 +9,10 @@ ghost use Rattle.nf_basis.specs.Arising.{StateTerms};
 ghost use Rattle.nf_basis.specs.declared.col.Col.{Col as Column};
 ghost use Rattle.nf_basis.specs.Kept.{IsPresent};
 ghost use Rattle.nf_basis.specs.Numbers.{AreEntriesBySlot};
-ghost use Rattle.nf_ratio.specs.Loops.{AreNextRatios, IsColumnOf, NextTerms, bound_at, first_ratio, place_ahead, span_of, turned};
-ghost use Rattle.nf_ratio.specs.Ties.{ratio_in};
+ghost use Rattle.nf_ratio.specs.Loops.{IsColumnOf, WeightTerms, bound_at, first_ratio, place_ahead, span_of, turned, value_ratio_at, weight_ratio_at};
+ghost use Rattle.nf_ratio.specs.Ties.{AreInOrder, AreLeast, tie};
 
+use crate::tie::Found;
 use nf_basis::{Basis, Col, Place};
 use nf_frac::{Frac, Passed, Steps};
 use nf_prob::Problem;
@@ -37,7 +38,7 @@ fn bound_at(p: &Problem, col: Col, place: Place) -> Option<Frac>
     ensures { result ≡ bound_at p.now col place }
 {
     match (col, place) {
-        (Col::Given(j), Place::Lower) => Some(p.lower(j)),
+        (Col::Given(j), Place::Lower) => p.lower(j),
         (Col::Given(j), Place::Upper) => p.upper(j),
         (_, Place::Lower) => Some(Frac::zero()),
         _ => None,
@@ -91,38 +92,61 @@ fn value_ratio<B: Basis, L: Ledger>(
     Ok(Some(ratio))
 }
 
-// The ratios of the values by slot.
-pub(crate) fn value_ratios<B: Basis, L: Ledger>(
+// The slots whose ratio of the value is the least.
+fn value_ties<B: Basis, L: Ledger>(
     p: &Problem,
     basis: &B,
     entries: &[Frac],
     down: bool,
-    ratios: &mut [Option<Frac>],
+    ties: &mut [usize],
     steps: &mut Steps<L>,
-) -> Result<(), Passed>
+) -> Result<Found, Passed>
     requires numbers { B.HasNumbers p.now basis.now }
     requires places { length entries.now ≡ rows_of p.now (B.standing basis.now) }
     requires entries { (c : Column) × IsPresent p.now (B.standing basis.now) c × AreEntriesBySlot p.now (B.standing basis.now) (B.slots basis.now) c entries.now }
-    requires room { length ratios.old ≡ suc (length entries.now) }
-    ensures size { length ratios.new ≡ length ratios.old }
-    ensures value { IfOk result (λ _. (i : ℕ) → i < length entries.now → ratio_in ratios.new i ≡ first_ratio p.now (B.slots basis.now) (B.values p.now basis.now) down entries.now i) }
+    requires room { length ties.old ≡ suc (length entries.now) }
+    ensures size { length ties.new ≡ length ties.old }
+    ensures ties { IfOk result (AreLeast (λ i. i) (first_ratio p.now (B.slots basis.now) (B.values p.now basis.now) down entries.now) (length entries.now) ties.new) }
     ensures passed { IfErr result (PassesIn (StateTerms p.now (B.standing basis.now))) }
     ensures cost { steps.new ≤ steps.old + 2 * length entries.now }
 {
     let _rows = p.rows();
+    let mut found = Found::none();
     for slot in 0..entries.len() {
         let ratio = value_ratio(p, basis, slot as u32, entries, down, steps)?;
-        ratios[slot] = ratio;
+        found = found.offer_if(slot, ratio, ties);
     }
-    Ok(())
+    Ok(found)
+}
+
+// The places whose ratio of the value is the least: slots, and after them the column that enters, whose ratio is the
+// distance of its bounds.
+pub(crate) fn first_ties<B: Basis, L: Ledger>(
+    p: &Problem,
+    basis: &B,
+    entering: Col,
+    entries: &[Frac],
+    down: bool,
+    ties: &mut [usize],
+    steps: &mut Steps<L>,
+) -> Result<Found, Passed>
+    requires numbers { B.HasNumbers p.now basis.now }
+    requires present { IsPresent p.now (B.standing basis.now) entering }
+    requires places { length entries.now ≡ rows_of p.now (B.standing basis.now) }
+    requires entries { AreEntriesBySlot p.now (B.standing basis.now) (B.slots basis.now) entering entries.now }
+    requires room { length ties.old ≡ suc (length entries.now) }
+    ensures size { length ties.new ≡ length ties.old }
+    ensures ties { IfOk result (AreLeast (λ i. i) (value_ratio_at p.now (B.slots basis.now) (B.values p.now basis.now) entering down entries.now) (suc (length entries.now)) ties.new) }
+    ensures passed { IfErr result (PassesIn (StateTerms p.now (B.standing basis.now))) }
+    ensures cost { steps.new ≤ steps.old + (1 + 2 * length entries.now) }
+{
+    let slots = value_ties(p, basis, entries, down, ties, steps)?;
+    let own = span(p, entering, steps)?;
+    Ok(slots.offer_if(entries.len(), own, ties))
 }
 
 // How far a column's bounds are apart, where it has both.
-pub(crate) fn span<L: Ledger>(
-    p: &Problem,
-    col: Col,
-    steps: &mut Steps<L>,
-) -> Result<Option<Frac>, Passed>
+fn span<L: Ledger>(p: &Problem, col: Col, steps: &mut Steps<L>) -> Result<Option<Frac>, Passed>
     requires column { IsColumnOf p.now col }
     ensures value { IfOk result (λ r. r ≡ span_of p.now col) }
     ensures passed { IfErr result (λ e. (l : ℚ) × (u : ℚ) × (bound_at p.now col Place.Lower ≡ Some l) × (bound_at p.now col Place.Upper ≡ Some u) × PassesIn (Is (difference_terms u l)) e) }
@@ -140,31 +164,52 @@ pub(crate) fn span<L: Ledger>(
     }
 }
 
-// The ratios of the weights in an inverse column, at the places that still have one.
-pub(crate) fn next_ratios<L: Ledger>(
+// The ratio of the weight in a place: 0 for the column that enters.
+fn weight_ratio<L: Ledger>(
     entries: &[Frac],
     weights: &[Frac],
     down: bool,
-    ratios: &mut [Option<Frac>],
+    place: usize,
     steps: &mut Steps<L>,
-) -> Result<(), Passed>
+) -> Result<Frac, Passed>
     requires weights { length weights.now ≡ length entries.now }
-    requires room { length ratios.old ≡ suc (length entries.now) }
-    requires entries { (i : ℕ) → i < length entries.now → ratio_in ratios.old i ≢ None → at entries.now i ≢ zero_ℚ }
-    ensures size { length ratios.new ≡ length ratios.old }
-    ensures value { IfOk result (λ _. AreNextRatios down entries.now weights.now ratios.old ratios.new) }
-    ensures passed { IfErr result (PassesIn (NextTerms entries.now weights.now ratios.old)) }
-    ensures cost { steps.new ≤ steps.old + length entries.now }
+    requires within { place ≤ length entries.now }
+    requires entry { place < length entries.now → at entries.now place ≢ zero_ℚ }
+    ensures value { IfOk result (λ r. r ≡ weight_ratio_at down entries.now weights.now place) }
+    ensures passed { IfErr result (λ e. (place < length entries.now) × PassesIn (Is (quotient_terms (at weights.now place) (at entries.now place))) e) }
+    ensures cost { steps.new ≤ steps.old + 1 }
 {
-    for i in 0..entries.len() {
-        if ratios[i].is_some() {
-            let ratio = ratio(weights[i], entries[i], down, steps)?;
-            ratios[i] = Some(ratio);
-        }
+    if place == entries.len() {
+        return Ok(Frac::zero());
     }
-    let last = entries.len();
-    if ratios[last].is_some() {
-        ratios[last] = Some(Frac::zero());
+    let ratio = ratio(weights[place], entries[place], down, steps)?;
+    Ok(ratio)
+}
+
+// Of the first places of a list, those whose ratio of the weight in an inverse column is the least.
+pub(crate) fn weight_ties<L: Ledger>(
+    entries: &[Frac],
+    weights: &[Frac],
+    down: bool,
+    count: usize,
+    ties: &mut [usize],
+    steps: &mut Steps<L>,
+) -> Result<Found, Passed>
+    requires weights { length weights.now ≡ length entries.now }
+    requires few { count ≤ length ties.old }
+    requires in_order { AreInOrder ties.old count }
+    requires within { (k : ℕ) → k < count → tie ties.old k ≤ length entries.now }
+    requires entries { (k : ℕ) → k < count → tie ties.old k < length entries.now → at entries.now (tie ties.old k) ≢ zero_ℚ }
+    ensures size { length ties.new ≡ length ties.old }
+    ensures ties { IfOk result (AreLeast (tie ties.old) (λ k. Some (weight_ratio_at down entries.now weights.now (tie ties.old k))) count ties.new) }
+    ensures passed { IfErr result (PassesIn (WeightTerms entries.now weights.now ties.old count)) }
+    ensures cost { steps.new ≤ steps.old + count }
+{
+    let mut found = Found::none();
+    for k in 0..count {
+        let place = ties[k];
+        let ratio = weight_ratio(entries, weights, down, place, steps)?;
+        found = found.offer(place, ratio, ties);
     }
-    Ok(())
+    Ok(found)
 }

@@ -6,13 +6,13 @@ use std::alloc::{AllocError, Global};
 use std::marker::Model;
 
 /// Three lists, with a place for each row of a stage: the entries of the column that enters, an inverse column, and the
-/// ratios of the columns that still tie, with a last place for the column that enters itself. It is seen as how many
-/// rows there are.
+/// slots of the columns that tie, with one place more for the column that enters itself. It is seen as how many rows
+/// there are.
 #[derive(Drop)]
 pub struct Work3 {
     pub(crate) entries: Vec<Frac>,
     pub(crate) weights: Vec<Frac>,
-    pub(crate) ratios: Vec<Option<Frac>>,
+    pub(crate) ties: Vec<usize>,
 }
 
 impl Model for Work3 {
@@ -22,7 +22,7 @@ impl Model for Work3 {
 
     ghost view = { λ w. length w.entries.items };
 
-    ghost invariant = { λ w. (length w.weights.items ≡ length w.entries.items) × (length w.ratios.items ≡ suc (length w.entries.items)) };
+    ghost invariant = { λ w. (length w.weights.items ≡ length w.entries.items) × (length w.ties.items ≡ suc (length w.entries.items)) };
 }
 
 impl Work3 {
@@ -34,7 +34,7 @@ impl Work3 {
         Ok(Work3 {
             entries: vec![in alloc; Frac::zero(); rows]?,
             weights: vec![in alloc; Frac::zero(); rows]?,
-            ratios: vec![in alloc; None; rows + 1]?,
+            ties: vec![in alloc; 0; rows + 1]?,
         })
     }
 }

@@ -1,16 +1,13 @@
 //! Trials of the simplex method on random networks.
 //!
-//! After each step every number of the basis is computed again plainly, and the plan at the end is written as a
-//! certificate, read back and checked. Bases are restored from places set by hand, and the start of stage two is tried on one
-//! problem worked by hand. Nothing stands on this crate, which has no code but its tests.
+//! After each step every number of the basis is computed again plainly. Bases are restored from places set by hand, and
+//! the start of stage two is tried on one problem worked by hand. Nothing depends on this crate, which has only tests.
 #![tactic(auto)]
 
 #[cfg(test)]
 mod networks;
 #[cfg(test)]
 mod plain;
-#[cfg(test)]
-mod plans;
 #[cfg(test)]
 mod restored;
 #[cfg(test)]

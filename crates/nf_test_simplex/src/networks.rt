@@ -118,7 +118,7 @@ fn add_arc(
     let cost = random.whole(-2, 9);
     let lower = random.whole(-1, 3);
     let upper = capacity(lower, random.whole(-3, 16));
-    builder.add_column(tail, head, cost, lower, upper)?;
+    builder.add_column(tail, head, cost, Some(lower), upper)?;
     Ok(())
 }
 

@@ -231,24 +231,41 @@ fn check_duals<B: Basis, L: Ledger>(
     Ok(())
 }
 
-// The bounds of a column: an arc has its own, and an artificial 0 alone.
-fn bounds(p: &Problem, col: Col) -> (Frac, Option<Frac>) {
+// The bounds of a column: a given one has its own, and a slack or an artificial 0 alone.
+fn bounds(p: &Problem, col: Col) -> (Option<Frac>, Option<Frac>) {
     match col {
         Col::Given(j) if 0 < j && j <= p.columns() => (p.lower(j), p.upper(j)),
-        _ => (Frac::zero(), None),
+        _ => (Some(Frac::zero()), None),
     }
 }
 
+fn is_at(bound: Option<Frac>, value: Frac) -> bool {
+    match bound {
+        Some(bound) => value == bound,
+        None => false,
+    }
+}
+
+fn is_within(value: Frac, lower: Option<Frac>, upper: Option<Frac>) -> bool {
+    let above = match lower {
+        Some(lower) => value.cmp(lower) != Ordering::Less,
+        None => true,
+    };
+    let below = match upper {
+        Some(upper) => value.cmp(upper) != Ordering::Greater,
+        None => true,
+    };
+    above && below
+}
+
 // Whether a value is one that a column may have in this place.
-fn is_in_place(value: Frac, place: Place, lower: Frac, upper: Option<Frac>) -> bool {
-    match (place, upper) {
-        (Place::Lower, _) => value == lower,
-        (Place::Upper, Some(upper)) => value == upper,
-        (Place::Basic, Some(upper)) => {
-            value.cmp(lower) != Ordering::Less && value.cmp(upper) != Ordering::Greater
-        }
-        (Place::Basic, None) => value.cmp(lower) != Ordering::Less,
-        (Place::Upper, None) | (Place::Absent, _) => false,
+fn is_in_place(value: Frac, place: Place, lower: Option<Frac>, upper: Option<Frac>) -> bool {
+    match place {
+        Place::Lower => is_at(lower, value),
+        Place::Upper => is_at(upper, value),
+        Place::Zero => lower.is_none() && upper.is_none() && value == Frac::zero(),
+        Place::Basic => is_within(value, lower, upper),
+        Place::Absent => false,
     }
 }
 

@@ -25,8 +25,8 @@ fn problem(alloc: Global) -> Result<Problem, Fail> {
     let mut builder = ProblemBuilder::new(alloc, false);
     builder.add_node(five)?;
     builder.add_node(five.neg())?;
-    builder.add_column(1, 2, Frac::from_whole(1), zero, None)?;
-    builder.add_column(1, 2, Frac::from_whole(3), zero, None)?;
+    builder.add_column(1, 2, Frac::from_whole(1), Some(zero), None)?;
+    builder.add_column(1, 2, Frac::from_whole(3), Some(zero), None)?;
     builder.add_row(RowKind::Le, Frac::from_whole(7))?;
     builder.add_entry(1, 3, Frac::from_whole(3))?;
     Ok(builder.finish()?)

@@ -42,8 +42,8 @@ fn problem(alloc: Global) -> Result<Problem, Fail> {
     let mut builder = ProblemBuilder::new(alloc, false);
     builder.add_node(five)?;
     builder.add_node(five.neg())?;
-    builder.add_column(1, 2, Frac::from_whole(1), zero, None)?;
-    builder.add_column(0, 0, zero, Frac::from_whole(2), None)?;
+    builder.add_column(1, 2, Frac::from_whole(1), Some(zero), None)?;
+    builder.add_column(0, 0, zero, Some(Frac::from_whole(2)), None)?;
     add_side(&mut builder, RowKind::Le, 7, 1, 1)?;
     add_side(&mut builder, RowKind::Ge, 2, 2, 1)?;
     add_side(&mut builder, RowKind::Eq, 10, 1, 3)?;

@@ -1,75 +1,80 @@
 use Rattle.std.proofs.Common.{◌≡◌, ◌∙◌, ◌≤◌, ◌+◌, ◌*◌, ℕ, subst, subst₂, sym}
 use Rattle.std.specs.Prelude.{IfNone, IfSome}
-use Rattle.nf_simplex.specs.Moves.{HasEndedInfeasibleIn, HasEndedOptimalIn, IsEligibleIn, IsPickedIn, WouldLower}
+use Rattle.nf_simplex.specs.Moves.{CanEnterIn, HasEndedInfeasibleIn, HasEndedOptimalIn, IsPickedIn, WouldLower}
 use Rattle.nf_simplex.specs.Size.{size}
 use Rattle.nf_simplex.specs.Standing.{rows_of}
 use Rattle.nf_basis.specs.Kept.{IsNonbasic}
 use Rattle.nf_basis.specs.Names.{col_of}
 use Rattle.nf_price.specs.Choice.{HasEnded, TellsShort}
 use Rattle.nf_price.specs.Rules.{rule_of}
-use Rattle.nf_ratio.specs.Answer.{moves_down}
 use Rattle.nf_ratio.specs.Ratios.{StandsAloneAfter}
 use Rattle.nf_engine.specs.Steps.{IsLimited}
 use Rattle.nf_engine.proofs.SumFacts.{rows_below}
-use Rattle.nf_engine.proofs.StepFacts.{look_cost, picked_eligible, turn_due}
+use Rattle.nf_engine.proofs.StepFacts.{look_cost, turn_due}
 use Rattle.nf_engine.proofs.turn.look.Goals as goal
 
 pub choose-requires-clause-short : goal.choose-requires-clause-short
 choose-requires-clause-short g c = subst (λ t. TellsShort c.args.p.now t c.in_ok-short.short) (sym c.state.ensures.standing) c.in_ok-short.ensures.short
 
-pub move_of-requires-clause-eligible : goal.move_of-requires-clause-eligible
-move_of-requires-clause-eligible g c =
+pub move_of-requires-clause-nonbasic : goal.move_of-requires-clause-nonbasic
+move_of-requires-clause-nonbasic g c = subst (λ t. IsNonbasic c.args.p.now t c.in-Some.pick.col) c.state.ensures.standing (subst (λ r. IfSome r (λ q. IsNonbasic c.args.p.now c.state.result.now.standing q.col)) c.in-Some.is c.in_ok-picked.ensures.nonbasic)
+
+pub move_of-requires-clause-enters : goal.move_of-requires-clause-enters
+move_of-requires-clause-enters g c =
     let p = c.args.p.now in
-    let s = c.state.result.now.standing in
-    let picked = subst (λ r. IfSome r (λ e. IsPickedIn p s (rule_of c.args.rule) c.args.cursor (col_of e))) c.in-Some.is c.in_ok-picked.ensures.picked in
-    subst (λ t. IsEligibleIn p t (col_of c.in-Some.entering)) c.state.ensures.standing (picked_eligible p s (rule_of c.args.rule) c.args.cursor (col_of c.in-Some.entering) picked)
+    let q = c.in-Some.pick in
+    let lowers = subst (λ r. IfSome r (λ q. WouldLower p c.state.result.now.standing (col_of q.col) q.down)) c.in-Some.is c.in_ok-picked.ensures.lowers in
+    subst (λ t. CanEnterIn p t (col_of q.col) q.down) c.state.ensures.standing lowers.enters
 
 pub returns-in_err-turn-in-Some-clause-cost : goal.returns-in_err-turn-in-Some-clause-cost
 returns-in_err-turn-in-Some-clause-cost g c = λ t alone.
     let p = c.args.p.now in
-    let e = c.in-Some.entering in
+    let q = c.in-Some.pick in
     let s = g.B.Basis.standing c.args.basis.now in
     let first : g.B.Basis.standing c.duals.new.self ≡ s = c.in_ok-duals.ensures.standing in
     let same : g.B.Basis.standing c.duals-2.new.self ≡ s = c.in_ok-duals-2.ensures.standing ∙ first in
     let told : c.state.result.now.standing ≡ s = c.state.ensures.standing ∙ same in
-    let picked = subst (λ r. IfSome r (λ e. IsPickedIn p c.state.result.now.standing (rule_of c.args.rule) c.args.cursor (col_of e))) c.in-Some.is c.in_ok-picked.ensures.picked in
-    let picks = subst (λ t. IsPickedIn p t (rule_of c.args.rule) c.args.cursor (col_of e)) told picked in
+    let picked = subst (λ r. IfSome r (λ e. IsPickedIn p c.state.result.now.standing (rule_of c.args.rule) c.args.cursor (col_of e.col))) c.in-Some.is c.in_ok-picked.ensures.picked in
+    let picks = subst (λ t. IsPickedIn p t (rule_of c.args.rule) c.args.cursor (col_of q.col)) told picked in
+    let lowers = subst (λ t. WouldLower p t (col_of q.col) q.down) told (subst (λ r. IfSome r (λ e. WouldLower p c.state.result.now.standing (col_of e.col) e.down)) c.in-Some.is c.in_ok-picked.ensures.lowers) in
     look_cost c.args.steps.now c.duals.new.steps c.duals-2.new.steps c.is_short.new.steps c.choose.new.steps c.move_of.new.steps t (g.B.Basis.unit p s.stage) (size p s.stage) (rows_of p s) (rows_below p s.stage)
     c.duals.ensures.cost
     (subst (λ q. c.duals-2.new.steps ≤ c.duals.new.steps + g.B.Basis.unit p q.stage) first c.duals-2.ensures.cost)
     (subst (λ q. c.is_short.new.steps ≤ c.duals-2.new.steps + rows_of p q) same c.is_short.ensures.cost)
     (subst (λ q. c.choose.new.steps ≤ c.is_short.new.steps + 16 * size p q.stage) told c.choose.ensures.cost)
-    (subst (λ q. (t : ℕ) → StandsAloneAfter p q (col_of e) (moves_down p q e) t → c.move_of.new.steps ≤ c.choose.new.steps + (1 + t) * (g.B.Basis.unit p q.stage + 4 * size p q.stage)) same c.move_of.ensures.cost t (alone e picks))
+    (subst (λ z. (t : ℕ) → StandsAloneAfter p z (col_of q.col) q.down t → c.move_of.new.steps ≤ c.choose.new.steps + (1 + t) * (g.B.Basis.unit p z.stage + 4 * size p z.stage)) same c.move_of.ensures.cost t (alone q.col q.down picks lowers))
 
 pub returns-in_ok-turn-in-Some-clause-cost : goal.returns-in_ok-turn-in-Some-clause-cost
 returns-in_ok-turn-in-Some-clause-cost g c = λ t alone.
     let p = c.args.p.now in
-    let e = c.in-Some.entering in
+    let q = c.in-Some.pick in
     let s = g.B.Basis.standing c.args.basis.now in
     let first : g.B.Basis.standing c.duals.new.self ≡ s = c.in_ok-duals.ensures.standing in
     let same : g.B.Basis.standing c.duals-2.new.self ≡ s = c.in_ok-duals-2.ensures.standing ∙ first in
     let told : c.state.result.now.standing ≡ s = c.state.ensures.standing ∙ same in
-    let picked = subst (λ r. IfSome r (λ e. IsPickedIn p c.state.result.now.standing (rule_of c.args.rule) c.args.cursor (col_of e))) c.in-Some.is c.in_ok-picked.ensures.picked in
-    let picks = subst (λ t. IsPickedIn p t (rule_of c.args.rule) c.args.cursor (col_of e)) told picked in
+    let picked = subst (λ r. IfSome r (λ e. IsPickedIn p c.state.result.now.standing (rule_of c.args.rule) c.args.cursor (col_of e.col))) c.in-Some.is c.in_ok-picked.ensures.picked in
+    let picks = subst (λ t. IsPickedIn p t (rule_of c.args.rule) c.args.cursor (col_of q.col)) told picked in
+    let lowers = subst (λ t. WouldLower p t (col_of q.col) q.down) told (subst (λ r. IfSome r (λ e. WouldLower p c.state.result.now.standing (col_of e.col) e.down)) c.in-Some.is c.in_ok-picked.ensures.lowers) in
     look_cost c.args.steps.now c.duals.new.steps c.duals-2.new.steps c.is_short.new.steps c.choose.new.steps c.move_of.new.steps t (g.B.Basis.unit p s.stage) (size p s.stage) (rows_of p s) (rows_below p s.stage)
     c.duals.ensures.cost
     (subst (λ q. c.duals-2.new.steps ≤ c.duals.new.steps + g.B.Basis.unit p q.stage) first c.duals-2.ensures.cost)
     (subst (λ q. c.is_short.new.steps ≤ c.duals-2.new.steps + rows_of p q) same c.is_short.ensures.cost)
     (subst (λ q. c.choose.new.steps ≤ c.is_short.new.steps + 16 * size p q.stage) told c.choose.ensures.cost)
-    (subst (λ q. (t : ℕ) → StandsAloneAfter p q (col_of e) (moves_down p q e) t → c.move_of.new.steps ≤ c.choose.new.steps + (1 + t) * (g.B.Basis.unit p q.stage + 4 * size p q.stage)) same c.move_of.ensures.cost t (alone e picks))
+    (subst (λ z. (t : ℕ) → StandsAloneAfter p z (col_of q.col) q.down t → c.move_of.new.steps ≤ c.choose.new.steps + (1 + t) * (g.B.Basis.unit p z.stage + 4 * size p z.stage)) same c.move_of.ensures.cost t (alone q.col q.down picks lowers))
 
 pub returns-in_ok-turn-in-Some-clause-turn : goal.returns-in_ok-turn-in-Some-clause-turn
 returns-in_ok-turn-in-Some-clause-turn g c =
     let p = c.args.p.now in
-    let e = c.in-Some.entering in
+    let q = c.in-Some.pick in
     let s = g.B.Basis.standing c.args.basis.now in
     let same : g.B.Basis.standing c.duals-2.new.self ≡ s = c.in_ok-duals-2.ensures.standing ∙ c.in_ok-duals.ensures.standing in
     let slots : g.B.Basis.slots c.duals-2.new.self ≡ g.B.Basis.slots c.args.basis.now = c.in_ok-duals-2.ensures.slots ∙ c.in_ok-duals.ensures.slots in
     let told : c.state.result.now.standing ≡ s = c.state.ensures.standing ∙ same in
-    let picked = subst (λ r. IfSome r (λ e. IsPickedIn p c.state.result.now.standing (rule_of c.args.rule) c.args.cursor (col_of e))) c.in-Some.is c.in_ok-picked.ensures.picked in
-    let nonbasic = subst (λ r. IfSome r (IsNonbasic p c.state.result.now.standing)) c.in-Some.is c.in_ok-picked.ensures.nonbasic in
-    turn_due p s c.requires.feasible c.args.rule c.args.cursor e (g.B.Basis.slots c.args.basis.now) c.in_ok-turn-in-Some.turn (subst (λ t. IsNonbasic p t e) told nonbasic) (subst (λ t. IsPickedIn p t (rule_of c.args.rule) c.args.cursor (col_of e)) told picked)
-    (subst (λ t. WouldLower p t (col_of e) (moves_down p t e)) same c.move_of.ensures.lowers) (subst₂ (λ t l. IsLimited p t l e c.in_ok-turn-in-Some.turn) same slots c.in_ok-turn-in-Some.ensures.limited)
+    let picked = subst (λ r. IfSome r (λ e. IsPickedIn p c.state.result.now.standing (rule_of c.args.rule) c.args.cursor (col_of e.col))) c.in-Some.is c.in_ok-picked.ensures.picked in
+    let nonbasic = subst (λ r. IfSome r (λ e. IsNonbasic p c.state.result.now.standing e.col)) c.in-Some.is c.in_ok-picked.ensures.nonbasic in
+    let lowers = subst (λ r. IfSome r (λ e. WouldLower p c.state.result.now.standing (col_of e.col) e.down)) c.in-Some.is c.in_ok-picked.ensures.lowers in
+    turn_due p s c.requires.feasible c.args.rule c.args.cursor q.col q.down (g.B.Basis.slots c.args.basis.now) c.in_ok-turn-in-Some.turn (subst (λ t. IsNonbasic p t q.col) told nonbasic) (subst (λ t. IsPickedIn p t (rule_of c.args.rule) c.args.cursor (col_of q.col)) told picked)
+    (subst (λ t. WouldLower p t (col_of q.col) q.down) told lowers) (subst₂ (λ t l. IsLimited p t l q.col q.down c.in_ok-turn-in-Some.turn) same slots c.in_ok-turn-in-Some.ensures.limited)
 
 pub returns-in_ok-turn-in-Some-clause-short : goal.returns-in_ok-turn-in-Some-clause-short
 returns-in_ok-turn-in-Some-clause-short g c = subst (λ t. TellsShort c.args.p.now t c.in_ok-short.short) (c.in_ok-duals-2.ensures.standing ∙ c.in_ok-duals.ensures.standing) c.in_ok-short.ensures.short

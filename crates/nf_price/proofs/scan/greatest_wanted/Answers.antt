@@ -1,14 +1,14 @@
-use Rattle.std.proofs.Common.{◌+◌, ◌<◌, arith, refl, subst, sym}
+use Rattle.std.proofs.Common.{◌≡◌, ◌+◌, ◌<◌, arith, subst, sym}
 use Rattle.std.specs.Prelude.{IfNone, IfSome}
 use Rattle.nf_duals.specs.Priced.{count_priced}
-use Rattle.nf_price.specs.Wanted.{HasMagnitude, IsBestBelow, Wants}
+use Rattle.nf_price.specs.Wanted.{IsBestBelow, IsCandidate, Wants}
 use Rattle.nf_price.proofs.CostFacts.{paid_more, paid_within}
 use Rattle.nf_price.proofs.ScanFacts.{better_here, skip_here}
 use Rattle.nf_price.proofs.scan.greatest_wanted.Goals.{in-Some, in_default}
 use Rattle.nf_price.proofs.scan.greatest_wanted.Goals as goal
 
-pub returns-in_err-size-clause-cost : goal.returns-in_err-size-clause-cost
-returns-in_err-size-clause-cost g c =
+pub returns-in_err-next-clause-cost : goal.returns-in_err-next-clause-cost
+returns-in_err-next-clause-cost g c =
     let below : c.loop-k.k < count_priced c.args.p.now = omega (arith, c.loop-k-test.true, c.priced_columns-k-end.ensures) in
     let more = paid_more c.args.p.now c.args.phase c.loop-k.k in
     let up = paid_within c.args.p.now c.args.phase (c.loop-k.k + 1) (count_priced c.args.p.now) (omega (arith, below)) in
@@ -24,12 +24,12 @@ loop-k-preserved g c =
     record {
       best = elim c.match-branch-2.branch [
         | in-Some w ↦ subst (IsBestBelow p s c.args.phase y1 y2 (k + 1)) (sym w.best-is)
-            (better_here p s c.args.phase y1 y2 k c.loop-k.best w.better-best.result (record { number = k; size = w.in-Some.size }) refl
-            (subst (λ r. IfSome r (λ a. Wants p s c.args.phase y1 y2 k)) w.in-Some.is c.in_ok-size.ensures.wanted)
-            (subst (λ r. IfSome r (HasMagnitude p s c.args.phase y1 y2 k)) w.in-Some.is c.in_ok-size.ensures.size)
+            (better_here p s c.args.phase y1 y2 k c.loop-k.best w.better-best.result w.in-Some.next
+            (subst (λ r. IfSome r (λ a. a.number ≡ k)) w.in-Some.is c.in_ok-next.ensures.number)
+            (subst (λ r. IfSome r (IsCandidate p s c.args.phase y1 y2)) w.in-Some.is c.in_ok-next.ensures.some)
             w.better-best.ensures c.loop-k.invariant.best)
         | in_default w ↦ subst (IsBestBelow p s c.args.phase y1 y2 (k + 1)) (sym w.best-is)
-            (skip_here p s c.args.phase y1 y2 k c.loop-k.best (subst (λ r. IfNone r (Wants p s c.args.phase y1 y2 k → ⊥)) w.in_default.is c.in_ok-size.ensures.none) c.loop-k.invariant.best)
+            (skip_here p s c.args.phase y1 y2 k c.loop-k.best (subst (λ r. IfNone r (Wants p s c.args.phase y1 y2 k → ⊥)) w.in_default.is c.in_ok-next.ensures.none) c.loop-k.invariant.best)
       ];
       cost = omega (arith, paid_more p c.args.phase k, c.loop-k.invariant.cost, c.wanted.ensures.cost);
     }

@@ -15,7 +15,7 @@ pivot-requires-clause-entry g c =
     let old = c.args.self.now in
     let here : c.self.inside.basis ≡ old.basis = search rules in
     let due = subst (IsChange p c.requires.due.0 (g.B.Basis.standing old.basis) old.cursor (g.B.Basis.slots old.basis)) c.in-Pivot.is c.requires.due.1 in
-    subst (λ b. HasEntryAt p (g.B.Basis.standing b) (g.B.Basis.slots b) c.in-Pivot.entering c.in-Pivot.slot) (sym here) due.1.entry
+    subst (λ b. HasEntryAt p (g.B.Basis.standing b) (g.B.Basis.slots b) c.in-Pivot.entering c.in-Pivot.slot) (sym here) due.2.entry
 
 pub returns-in_ok-pivot-in-Pivot-clause-made : goal.returns-in_ok-pivot-in-Pivot-clause-made
 returns-in_ok-pivot-in-Pivot-clause-made g c = λ rule due.

@@ -1,11 +1,7 @@
 use Rattle.std.proofs.Common.{◌≡◌, ◌∙◌, ◌≤◌, ◌+◌, ◌*◌, ap, subst, subst₂, sym, rules}
 use Rattle.nf_simplex.specs.Size.{size}
-use Rattle.nf_basis.specs.declared.col.Col.{Col as Column}
-use Rattle.nf_basis.specs.Names.{col_of}
-use Rattle.nf_ratio.specs.Answer.{moves_down}
-use Rattle.nf_ratio.specs.Ratios.{StandsAloneAfter}
 use Rattle.nf_engine.specs.Point.{point}
-use Rattle.nf_engine.specs.Steps.{HasEnded, IsStep, Picks}
+use Rattle.nf_engine.specs.Steps.{HasEnded, IsStep, IsTestedBy}
 use Rattle.nf_engine.proofs.StepFacts.{at_point, change_same, ended_same, ended_step, no_more, point_same, step_cost}
 use Rattle.nf_engine.proofs.engine.Engine.step.Goals as goal
 
@@ -44,8 +40,8 @@ returns-in_err-due-clause-cost g c = λ t alone.
     let p = c.args.p.now in
     let basis : c.self.inside.basis ≡ c.args.self.now.basis = search rules in
     let cursor : c.self.inside.cursor ≡ c.args.self.now.cursor = search rules in
-    let inner : (e : Column) → Picks p c.args.rule (g.B.Basis.standing c.self.inside.basis) c.self.inside.cursor e → StandsAloneAfter p (g.B.Basis.standing c.self.inside.basis) (col_of e) (moves_down p (g.B.Basis.standing c.self.inside.basis) e) t =
-    subst₂ (λ b k. (e : Column) → Picks p c.args.rule (g.B.Basis.standing b) k e → StandsAloneAfter p (g.B.Basis.standing b) (col_of e) (moves_down p (g.B.Basis.standing b) e) t) (sym basis) (sym cursor) alone in
+    let inner : IsTestedBy p c.args.rule (g.B.Basis.standing c.self.inside.basis) c.self.inside.cursor t =
+    subst₂ (λ b k. IsTestedBy p c.args.rule (g.B.Basis.standing b) k t) (sym basis) (sym cursor) alone in
     subst (λ b. c.look.new.steps ≤ c.args.steps.now + 8 * (1 + t) * (g.B.Basis.unit p (g.B.Basis.standing b).stage + 6 * size p (g.B.Basis.standing b).stage)) basis
     (step_cost c.args.steps.now c.look.new.steps c.look.new.steps t (g.B.Basis.unit p (g.B.Basis.standing c.self.inside.basis).stage) (size p (g.B.Basis.standing c.self.inside.basis).stage) (c.look.ensures.cost t inner) (no_more c.look.new.steps _))
 
@@ -54,8 +50,8 @@ returns-in-Ended-clause-cost g c = λ t alone.
     let p = c.args.p.now in
     let basis : c.self.inside.basis ≡ c.args.self.now.basis = search rules in
     let cursor : c.self.inside.cursor ≡ c.args.self.now.cursor = search rules in
-    let inner : (e : Column) → Picks p c.args.rule (g.B.Basis.standing c.self.inside.basis) c.self.inside.cursor e → StandsAloneAfter p (g.B.Basis.standing c.self.inside.basis) (col_of e) (moves_down p (g.B.Basis.standing c.self.inside.basis) e) t =
-    subst₂ (λ b k. (e : Column) → Picks p c.args.rule (g.B.Basis.standing b) k e → StandsAloneAfter p (g.B.Basis.standing b) (col_of e) (moves_down p (g.B.Basis.standing b) e) t) (sym basis) (sym cursor) alone in
+    let inner : IsTestedBy p c.args.rule (g.B.Basis.standing c.self.inside.basis) c.self.inside.cursor t =
+    subst₂ (λ b k. IsTestedBy p c.args.rule (g.B.Basis.standing b) k t) (sym basis) (sym cursor) alone in
     subst (λ b. c.look.new.steps ≤ c.args.steps.now + 8 * (1 + t) * (g.B.Basis.unit p (g.B.Basis.standing b).stage + 6 * size p (g.B.Basis.standing b).stage)) basis
     (step_cost c.args.steps.now c.look.new.steps c.look.new.steps t (g.B.Basis.unit p (g.B.Basis.standing c.self.inside.basis).stage) (size p (g.B.Basis.standing c.self.inside.basis).stage) (c.look.ensures.cost t inner) (no_more c.look.new.steps _))
 
@@ -64,8 +60,8 @@ returns-in_err-moved-in-Changes-clause-cost g c = λ t alone.
     let p = c.args.p.now in
     let basis : c.self.inside.basis ≡ c.args.self.now.basis = search rules in
     let cursor : c.self.inside.cursor ≡ c.args.self.now.cursor = search rules in
-    let inner : (e : Column) → Picks p c.args.rule (g.B.Basis.standing c.self.inside.basis) c.self.inside.cursor e → StandsAloneAfter p (g.B.Basis.standing c.self.inside.basis) (col_of e) (moves_down p (g.B.Basis.standing c.self.inside.basis) e) t =
-    subst₂ (λ b k. (e : Column) → Picks p c.args.rule (g.B.Basis.standing b) k e → StandsAloneAfter p (g.B.Basis.standing b) (col_of e) (moves_down p (g.B.Basis.standing b) e) t) (sym basis) (sym cursor) alone in
+    let inner : IsTestedBy p c.args.rule (g.B.Basis.standing c.self.inside.basis) c.self.inside.cursor t =
+    subst₂ (λ b k. IsTestedBy p c.args.rule (g.B.Basis.standing b) k t) (sym basis) (sym cursor) alone in
     subst (λ b. c.make.new.steps ≤ c.args.steps.now + 8 * (1 + t) * (g.B.Basis.unit p (g.B.Basis.standing b).stage + 6 * size p (g.B.Basis.standing b).stage)) basis
     (step_cost c.args.steps.now c.look.new.steps c.make.new.steps t (g.B.Basis.unit p (g.B.Basis.standing c.self.inside.basis).stage) (size p (g.B.Basis.standing c.self.inside.basis).stage) (c.look.ensures.cost t inner) (subst (λ q. c.make.new.steps ≤ c.look.new.steps + 4 * g.B.Basis.unit p q.stage) c.in_ok-due.ensures.standing c.make.ensures.cost))
 
@@ -74,7 +70,7 @@ returns-in_ok-moved-in-Changes-clause-cost g c = λ t alone.
     let p = c.args.p.now in
     let basis : c.self.inside.basis ≡ c.args.self.now.basis = search rules in
     let cursor : c.self.inside.cursor ≡ c.args.self.now.cursor = search rules in
-    let inner : (e : Column) → Picks p c.args.rule (g.B.Basis.standing c.self.inside.basis) c.self.inside.cursor e → StandsAloneAfter p (g.B.Basis.standing c.self.inside.basis) (col_of e) (moves_down p (g.B.Basis.standing c.self.inside.basis) e) t =
-    subst₂ (λ b k. (e : Column) → Picks p c.args.rule (g.B.Basis.standing b) k e → StandsAloneAfter p (g.B.Basis.standing b) (col_of e) (moves_down p (g.B.Basis.standing b) e) t) (sym basis) (sym cursor) alone in
+    let inner : IsTestedBy p c.args.rule (g.B.Basis.standing c.self.inside.basis) c.self.inside.cursor t =
+    subst₂ (λ b k. IsTestedBy p c.args.rule (g.B.Basis.standing b) k t) (sym basis) (sym cursor) alone in
     subst (λ b. c.make.new.steps ≤ c.args.steps.now + 8 * (1 + t) * (g.B.Basis.unit p (g.B.Basis.standing b).stage + 6 * size p (g.B.Basis.standing b).stage)) basis
     (step_cost c.args.steps.now c.look.new.steps c.make.new.steps t (g.B.Basis.unit p (g.B.Basis.standing c.self.inside.basis).stage) (size p (g.B.Basis.standing c.self.inside.basis).stage) (c.look.ensures.cost t inner) (subst (λ q. c.make.new.steps ≤ c.look.new.steps + 4 * g.B.Basis.unit p q.stage) c.in_ok-due.ensures.standing c.make.ensures.cost))
