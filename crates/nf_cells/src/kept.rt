@@ -1,5 +1,6 @@
 //! A name as lists and keys keep it.
-ghost use Rattle.std.specs.Prelude.{◌≡◌, ◌++◌, IfOk, OnOk};
+ghost use Rattle.std.specs.Prelude.{◌≡◌, ◌++◌, IfErr, IfOk, OnOk};
+ghost use Rattle.std.specs.Str.{str_to_ascii_lowercase};
 
 use indexmap::Equivalent;
 use smallvec::SmallVec;
@@ -32,9 +33,20 @@ impl Name {
         })
     }
 
-    /// Adds bytes at the end. `AllocError` where they are more than 24 then and there is no memory for them.
+    /// A name of these bytes in small ASCII letters. `AllocError` if they are more than 24 and there is no memory for them.
+    pub fn lowered(alloc: Global, bytes: &[u8]) -> Result<Name, AllocError>
+        ensures bytes { IfOk result (λ n. n ≡ str_to_ascii_lowercase bytes.now) }
+    {
+        let mut name = Name::from_slice(alloc, bytes)?;
+        name.bytes.as_mut_slice().make_ascii_lowercase();
+        Ok(name)
+    }
+
+    /// Adds bytes at the end. `AllocError` if they are more than 24 then and there is no memory for them: the name is as
+    /// it was.
     pub fn extend_from_slice(&mut self, bytes: &[u8]) -> Result<(), AllocError>
         ensures bytes { OnOk result (self.new ≡ self.old ++ bytes.now) }
+        ensures kept { IfErr result (λ _. self.new ≡ self.old) }
     {
         self.bytes.extend_from_slice(bytes)
     }

@@ -1,5 +1,5 @@
 //! Lists of names, each once.
-ghost use Rattle.std.specs.Prelude.{◌≡◌, ◌<◌, [], length, get_or, IfOk, OnOk};
+ghost use Rattle.std.specs.Prelude.{◌≡◌, ◌<◌, [], length, get_or, IfErr, IfOk, OnOk};
 ghost use Rattle.nf_cells.specs.Names.{place_of, with_name, number_of};
 
 use crate::kept::{Name, Sought};
@@ -50,10 +50,11 @@ impl Names {
 
     /// The number of a name, which is added at the end if it is new.
     ///
-    /// `AllocError` where there is no memory for it.
+    /// `AllocError` if there is no memory for it: the names are as they were.
     pub fn number(&mut self, name: &[u8]) -> Result<usize, AllocError>
         ensures place { IfOk result (λ i. i ≡ place_of name.now self.old) }
         ensures names { OnOk result (self.new ≡ with_name self.old name.now) }
+        ensures kept { IfErr result (λ _. self.new ≡ self.old) }
     {
         if let Some(i) = self.find(name) {
             return Ok(i);

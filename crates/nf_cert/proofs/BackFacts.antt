@@ -20,14 +20,13 @@ use Rattle.nf_cert.specs.declared.item.Kind.{Kind}
 use Rattle.nf_cert.specs.declared.item.Kind.TheVariants as kind
 use Rattle.nf_cert.specs.declared.verdict.Verdict.{Verdict}
 use Rattle.nf_cert.specs.declared.verdict.Verdict.TheVariants as verdict
-use Rattle.nf_cert.specs.First.{first_below}
 use Rattle.nf_cert.specs.Items.{CertRow, HoldsFrac, cert_row, is_of, item, items_with, word}
 use Rattle.nf_cert.specs.Reading.{cert_read}
 use Rattle.nf_cert.specs.Rows.{first_fault, frac_at, fracs_at, rows_read, value_fault, verdict_of}
 use Rattle.nf_cert.specs.Steps.{fault_below, first_in}
 use Rattle.nf_cert.specs.Verdicts.{verdict_read, verdict_word}
 use Rattle.nf_cert.specs.Written.{HasParts, cert_grid, frac_rows, lists_rows, with_header, written_row}
-use Rattle.nf_cert.proofs.FirstFacts.{none-more, none-none}
+use Rattle.nf_cert.proofs.FirstFacts.{none-below}
 use Rattle.nf_cert.proofs.TextFacts.{plain-decimal, plain-frac, plain-value, verdict-value, word-value}
 use Rattle.nf_cert.proofs.WholeFacts.{get-left, get-right, none-found}
 
@@ -86,10 +85,6 @@ value-clear n kind.Ray text x h e = rw e refl
 
 row-clear : (table : List CertRow) (above : ℕ) (k : Kind) (n : ℕ) (x : ℚ) → HoldsFrac k → HasParts x → slice_get table above ≡ Some (one_row k n (frac_text x)) → fault_below table above (item k n) ≡ None
 row-clear table above k n x h parts there = rw (there, due k n (frac_text x)) (value-clear (above + 1) k (frac_text x) x h (frac_read-text x parts))
-
-none-below : {A : Type 0} (n : ℕ) (f : ℕ → Option A) → ((i : ℕ) → i < n → f i ≡ None) → first_below n f ≡ None
-none-below zero f h = none-none f
-none-below (suc n) f h = let s : n + 1 ≡ suc n = omega arith in subst (λ m. first_below m f ≡ None) s (none-more n f (none-below n f (λ i b. h i (omega (arith, b)))) (h n (omega arith)))
 
 rows-clear : (table : List CertRow) (above : ℕ) (k : Kind) (xs : List ℚ) → HoldsFrac k → All HasParts xs → ((i : ℕ) → i < length xs → slice_get table (above + i) ≡ slice_get (read_of k 1 xs) i) → first_in table above k (length xs) ≡ None
 unfolding first_in

@@ -13,6 +13,11 @@ module _ {A : Type 0} where
   unfolding first_below
   none-more i f n m = let s : i + 1 ≡ suc i = omega arith in rw (s, n) m
 
+  pub none-below : (n : ℕ) (f : ℕ → Option A) → ((i : ℕ) → i < n → f i ≡ None) → first_below n f ≡ None
+  unfolding first_below
+  none-below zero f h = refl
+  none-below (suc n) f h = rw (none-below n f (λ i below. h i (omega (arith, below)))) (h n (omega arith))
+
   pub found : (n i : ℕ) (f : ℕ → Option A) (x : A) → first_below i f ≡ None → f i ≡ Some x → i < n → first_below n f ≡ Some x
   unfolding first_below
   found zero i f x none h below = absurd (omega arith)

@@ -1,8 +1,8 @@
 -- The first that is there of a row of answers.
--- "The first fault is told" rests on it.
+-- "The first fault is reported" rests on it.
 use Rattle.std.specs.Prelude.{ℕ, zero, suc, Option, Some, None}
 
--- An answer, or where there is none the next one.
+-- An answer, or if there is none the next one.
 abbrev pub or_else : {A : Type 0} → Option A → Option A → Option A
 or_else None next = next
 or_else (Some x) next = Some x

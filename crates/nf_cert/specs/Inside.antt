@@ -1,4 +1,4 @@
--- That the columns of a certificate's table are in it.
+-- Working definitions, on which the promise of `read_cert` does not rest: the columns of a certificate's table are in it.
 -- No cell outside the table is read, since the functions that read cells ask for this.
 use Rattle.std.specs.Prelude.{◌<◌, ℕ}
 use Rattle.nf_cert.specs.declared.columns.Columns.{Columns}

@@ -52,8 +52,8 @@ items k count = map (item k) (range_with_len 1 count)
 unfoldable pub items_with : ℕ → Kind → ℕ → List Item
 items_with values k others = item kind.Verdict 1 ∷ items kind.Column values ++ items k others
 
--- The rows that a certificate of a verdict has: where it is OPTIMAL the value of each column and the dual of each row,
--- where INFEASIBLE the duals alone, where UNBOUNDED the values and the ray.
+-- The rows that a certificate of a verdict has: if it is OPTIMAL the value of each column and the dual of each row,
+-- if INFEASIBLE only the duals, if UNBOUNDED the values and the ray.
 abbrev pub items_of : Verdict → ℕ → ℕ → List Item
 items_of verdict.Optimal columns rows = items_with columns kind.Row rows
 items_of verdict.Infeasible columns rows = items_with 0 kind.Row rows

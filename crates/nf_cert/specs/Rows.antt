@@ -56,14 +56,14 @@ frac_at r = frac_or_zero (frac_read r.value)
 abbrev pub fracs_at : ℕ → ℕ → List CertRow → List ℚ
 fracs_at above count table = map frac_at (take count (drop above table))
 
--- The certificate of a verdict and of rows without a fault: behind the verdict the values of the columns, then the duals
+-- The certificate of a verdict and of rows without a fault: after the verdict the values of the columns, then the duals
 -- of the rows or the ray.
 abbrev pub cert_read_from : Verdict → ℕ → ℕ → List CertRow → Cert
 cert_read_from verdict.Optimal columns rows table = cert.Best (fracs_at 1 columns table) (fracs_at (1 + columns) rows table)
 cert_read_from verdict.Infeasible columns rows table = cert.Farkas (fracs_at 1 rows table)
 cert_read_from verdict.Unbounded columns rows table = cert.Ray (fracs_at 1 columns table) (fracs_at (1 + columns) columns table)
 
--- A fault, or where there is none this.
+-- A fault, or if there is none this.
 abbrev pub unless : {A : Type 0} → Option CertFault → A → Result A CertFault
 unless None x = Ok x
 unless (Some e) x = Err e
@@ -83,6 +83,6 @@ abbrev pub by_verdict : Result Verdict CertFault → (Verdict → Result Cert Ce
 by_verdict (Err e) read = Err e
 by_verdict (Ok v) read = read v
 
--- What the rows are read as: by the verdict, the first fault, or where there is none the certificate.
+-- What the rows are read as: by the verdict, the first fault, or if there is none the certificate.
 abbrev pub rows_read : ℕ → ℕ → List CertRow → Result Cert CertFault
 rows_read columns rows table = by_verdict (verdict_of (slice_get table 0)) (λ v. unless (first_fault (items_of v columns rows) table) (cert_read_from v columns rows table))

@@ -1,5 +1,5 @@
--- How far the reading of a certificate's rows has come.
--- The small functions below `read_cert` promise these.
+-- Working definitions, on which the promise of `read_cert` does not rest: how far the reading of a certificate's rows has
+-- come. The small functions below `read_cert` promise these.
 use Rattle.std.specs.Prelude.{◌≡◌, ◌+◌, ℕ, List, length, map, take, drop, slice_get, Option, Some, None, Ok, true}
 use Rattle.nf_num.specs.Rational.{ℚ}
 use Rattle.nf_prob.specs.declared.cert.Cert.{Cert}
@@ -54,7 +54,7 @@ pub record HasVerdict (table : List CertRow) (v : Verdict) : Type 0 where
   pub is : verdict_of (slice_get table 0) ≡ Ok v
   pub clear : fault_below table 0 (item kind.Verdict 1) ≡ None
 
--- The rows behind the verdict have no fault, and are those of these values and these others.
+-- The rows after the verdict have no fault, and are those of these values and these others.
 pub record HasLists (table : List CertRow) (columns : ℕ) (k : Kind) (count : ℕ) (l : Lists) : Type 0 where
   pub clear : first_fault (items_with columns k count) table ≡ None
   pub values : l.values ≡ fracs_at 1 columns table

@@ -14,7 +14,7 @@ pub(crate) struct Columns {
     pub(crate) value: u32,
 }
 
-// That a column is not there.
+// A column is missing.
 fn no_column(alloc: Global, name: &[u8]) -> CertFault
     ensures { (result ≡ CertFault.NoMemory) ⊎ (result ≡ CertFault.NoColumn name.now) }
 {
@@ -29,7 +29,7 @@ impl Columns {
     ghost use Rattle.nf_cert.specs.Inside.{IsInside};
     ghost use Rattle.nf_cert.specs.Reading.{columns_read};
 
-    // The three columns, or the first that is not there.
+    // The three columns, or the first that is missing.
     pub(crate) fn find(alloc: Global, table: &Table) -> Result<Columns, CertFault>
         ensures answer { (result ≡ Err CertFault.NoMemory) ⊎ (result ≡ columns_read table.now.header) }
         ensures inside { IfOk result (λ at_columns. IsInside at_columns (length table.now.header)) }

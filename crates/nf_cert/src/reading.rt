@@ -13,15 +13,15 @@ use std::alloc::Global;
 
 /// The certificate that a table gives for a problem.
 ///
-/// The table has the columns `_ITEM_`, `_NUMBER_` and `_VALUE_`, in any order and any case. Its rows are, in this order,
-/// `VERDICT,1,` with `OPTIMAL`, `INFEASIBLE` or `UNBOUNDED`; but for `INFEASIBLE` `COL,j,value` for each column of the
-/// problem from 1; but for `UNBOUNDED` `ROW,i,dual` for each of its rows from 1; and for `UNBOUNDED` alone
-/// `RAY,j,direction` for each column. Spaces at both ends of a cell do not count.
+/// The table has the columns `_ITEM_`, `_NUMBER_` and `_VALUE_`, in any order and any case. Its rows are, in this order:
+/// `VERDICT,1,` with `OPTIMAL`, `INFEASIBLE` or `UNBOUNDED`; `COL,j,value` for each column of the problem from 1, but not
+/// for `INFEASIBLE`; `ROW,i,dual` for each of its rows from 1, but not for `UNBOUNDED`; and `RAY,j,direction` for each
+/// column, only for `UNBOUNDED`. Spaces at both ends of a cell do not count.
 ///
-/// `NoColumn` is the first of the three columns that is not there. Then the first row at fault is told: `UnknownRow`
-/// where it is not the one that is due, or its verdict is none of the three, or it is one too many; `Number` where it
-/// is due, but its value is no fraction's text; `MissingRow` where the table ends before it. `NoMemory` where memory is
-/// refused.
+/// `NoColumn` is the first of the three columns that is missing. After that the first row with a fault is reported:
+/// `UnknownRow` if it is not the one that is due, or its verdict is none of the three, or it is one too many; `Number` if
+/// it is due, but its value is not the text of a fraction; `MissingRow` if the table ends before it. `NoMemory` if out of
+/// memory.
 pub fn read_cert(alloc: Global, table: &Table, p: &Problem) -> Result<Cert, CertFault>
     ensures answer { (result ≡ Err CertFault.NoMemory) ⊎ (result ≡ cert_read table.now (length p.now.columns) (length p.now.rows)) }
     ensures lengths { IfOk result (HasLengths p.now) }

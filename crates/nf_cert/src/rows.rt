@@ -108,14 +108,14 @@ fn fracs_below(
     Ok(fracs)
 }
 
-// The fractions of the rows behind the verdict: values of columns, and others.
+// The fractions of the rows after the verdict: values of columns, and others.
 #[derive(Drop)]
 struct Lists {
     values: Fracs,
     others: Fracs,
 }
 
-// The rows behind the verdict: so many values of columns, so many of another kind, and no more.
+// The rows after the verdict: so many values of columns, so many of another kind, and no more.
 fn read_lists(
     alloc: Global,
     table: &Table,

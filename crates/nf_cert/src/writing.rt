@@ -19,7 +19,7 @@ use std::alloc::{AllocError, Global};
 /// The table of a certificate for a problem, with the columns `_ITEM_`, `_NUMBER_` and `_VALUE_` and the rows that
 /// `read_cert` asks for. Reading it gives the certificate back.
 ///
-/// `AllocError` where there is no memory.
+/// `AllocError` if out of memory.
 pub fn cert_table(alloc: Global, p: &Problem, cert: &Cert) -> Result<Table, AllocError>
     requires lengths { HasLengths p.now cert.now }
     ensures table { IfOk result (λ t. t ≡ cert_grid cert.now) }

@@ -4,10 +4,8 @@ use Rattle.std.proofs.lemmas.List.{append-nil, length-append, get_or-map}
 use Rattle.std.specs.Bool.{nat_le}
 use Rattle.nf_table.specs.Grid.{Grid}
 use Rattle.nf_cells.specs.Names.{Name, has_name}
-use Rattle.nf_cells.specs.Values.{bound_in}
 use Rattle.nf_cells.specs.declared.values.Cell.{Cell}
 use Rattle.nf_cells.specs.declared.values.Cell.TheVariants.{Missing, Bad, Is}
-use Rattle.nf_cells.specs.declared.values.Bound.{Bound}
 use Rattle.nf_program.specs.declared.program.Role.TheVariants as role
 use Rattle.nf_roles.specs.declared.fault.DataKind.TheVariants as kind
 use Rattle.nf_roles.specs.First.{first_below, or_else}
@@ -17,11 +15,13 @@ use Rattle.nf_network.specs.Faults.{is_bad}
 use Rattle.nf_network.proofs.Lists.{joined-more, joined-none, joined-ones}
 use Rattle.nf_cons.specs.declared.places.Place.TheVariants.{OfRole, Column}
 use Rattle.nf_cons.specs.declared.places.PlacedFault.{PlacedFault}
-use Rattle.nf_cons.specs.declared.types.RowType.{RowType}
+use Rattle.nf_cons.specs.declared.row_type.RowType.{RowType}
+use Rattle.nf_cons.specs.declared.value.Value.{Value}
 use Rattle.nf_cons.specs.Places.{IsFaultOf, fault_if, first_of}
 use Rattle.nf_cons.specs.Terms.{Given, TermLists, lists_of, term_faults}
 use Rattle.nf_cons.specs.Dense.{Dense, cell_at, cell_fault_at, cell_faults, cell_term, dense_row, given_at, given_before, given_by, given_in, givens, head_faults, most_coefficients, name_faults, names, names_at, no_row, right_at, right_faults, row_at, row_fault_at, row_name, side_at, side_if, sides, type_at, type_faults}
 use Rattle.nf_cons.specs.Types.{side_kind}
+use Rattle.nf_cons.specs.Values.{value_in}
 use Rattle.nf_cons.specs.Naming.{VariableList}
 use Rattle.nf_cons.specs.Passing.{DenseState, IsAfterRows, dense_now, lists_with, state_before, state_with}
 use Rattle.nf_cons.proofs.FaultFacts.{first-append, left, or-assoc, or-first, or-second, passed, right}
@@ -60,17 +60,17 @@ pub state-none : (s : DenseState) (d : Dense) (k : ℕ) → s.lists ≡ lists_of
 state-none s d k h g = rw (before-none d k, ← h, ← g) refl
 
 -- ---- a cell
-pub given-is : (d : Dense) (k i : ℕ) (t : RowType) (c v constraint n : ℕ) (cell : Cell Bound) → t ≡ type_at d k → c ≡ get_or d.columns i 0 → v ≡ get_or d.variables i 0
+pub given-is : (d : Dense) (k i : ℕ) (t : RowType) (c v constraint n : ℕ) (cell : Cell Value) → t ≡ type_at d k → c ≡ get_or d.columns i 0 → v ≡ get_or d.variables i 0
     → constraint ≡ length (sides d k) → n ≡ k + 1 → cell ≡ cell_at d k i → given_by t d.arcs c v constraint n cell ≡ given_at d k i
 unfolding given_at
 given-is d k i t c v constraint n cell et ec ev es en ex = rw (et, ec, ev, es, en, ex) refl
 
-pub fault-is : (d : Dense) (k i : ℕ) (t : RowType) (c v : ℕ) (ls : TermLists) (n : ℕ) (cell : Cell Bound) → t ≡ type_at d k → c ≡ get_or d.columns i 0 → v ≡ get_or d.variables i 0
+pub fault-is : (d : Dense) (k i : ℕ) (t : RowType) (c v : ℕ) (ls : TermLists) (n : ℕ) (cell : Cell Value) → t ≡ type_at d k → c ≡ get_or d.columns i 0 → v ≡ get_or d.variables i 0
     → ls ≡ lists_of (given_before d k i) → n ≡ length (given_before d k i) → cell ≡ cell_at d k i → cell_fault_at d k i ≡ first_of (cell_faults t d.arcs c v ls n cell)
 unfolding cell_fault_at
 fault-is d k i t c v ls n cell et ec ev el en ex = rw (et, ec, ev, el, en, ex) refl
 
-pub few-more : (t : RowType) (arcs c v : ℕ) (ls : TermLists) (n constraint row : ℕ) (cell : Cell Bound) → first_of (cell_faults t arcs c v ls n cell) ≡ None → n ≤ most_coefficients
+pub few-more : (t : RowType) (arcs c v : ℕ) (ls : TermLists) (n constraint row : ℕ) (cell : Cell Value) → first_of (cell_faults t arcs c v ls n cell) ≡ None → n ≤ most_coefficients
     → n + length (given_by t arcs c v constraint row cell) ≤ most_coefficients
 few-more t arcs c v ls n constraint row Missing h few = omega (arith, few)
 few-more t arcs c v ls n constraint row Bad h few = omega (arith, few)
@@ -89,9 +89,9 @@ row-is roles table s k below =
     rw next (get_or-map (dense_row roles) table.rows k [] no_row below)
 
 pub cell-is : (roles : RoleColumns) (table : Grid) (s : DenseState) (k i c : ℕ) → k < length table.rows → i < length roles.variables → c ≡ get_or roles.variables i 0
-    → bound_in (get_or (get_or (table.header ∷ table.rows) (k + 1) []) c []) ≡ cell_at (dense_now roles table s) k i
+    → value_in (get_or (get_or (table.header ∷ table.rows) (k + 1) []) c []) ≡ cell_at (dense_now roles table s) k i
 cell-is roles table s k i c below inside is =
-    rw (row-is roles table s k below, is) (sym (get_or-map (λ q. bound_in (get_or (get_or (table.header ∷ table.rows) (k + 1) []) q [])) roles.variables i 0 Missing inside))
+    rw (row-is roles table s k below, is) (sym (get_or-map (λ q. value_in (get_or (get_or (table.header ∷ table.rows) (k + 1) []) q [])) roles.variables i 0 Missing inside))
 
 -- ---- a row
 pub head-split : (d : Dense) (k : ℕ) → first_of (head_faults d k)

@@ -1,19 +1,21 @@
 -- The network with constraints is the one that is due.
 use Rattle.std.proofs.Common.{◌≡◌, ◌⊎◌, ◌≤◌, List, None, Ok, Err, length, map, refl, sym, ap, ◌∙◌, inl, inr, arith}
 use Rattle.std.proofs.lemmas.List.{length-append, length-take-le}
+use Rattle.std.proofs.lemmas.List.FromFn.{length-map-range_with_len}
 use Rattle.nf_labels.specs.Labels.{AreNumbered, LabelList}
 use Rattle.nf_table.specs.Grid.{Grid}
 use Rattle.nf_cells.specs.Names.{Name}
 use Rattle.nf_program.specs.declared.program.ProcOptions.{ProcOptions}
 use Rattle.nf_roles.specs.declared.fault.DataFault.{DataFault}
 use Rattle.nf_roles.specs.declared.fault.DataKind.TheVariants as kind
+use Rattle.nf_roles.specs.Faults.{out_of_memory}
 use Rattle.nf_roles.specs.Roles.{RoleColumns}
 use Rattle.nf_network.specs.Network.{Network}
 use Rattle.nf_network.proofs.PassFacts.{map-length}
 use Rattle.nf_cons.specs.declared.places.RowFault.{RowFault}
 use Rattle.nf_cons.specs.declared.taken.SideRow.{SideRow}
 use Rattle.nf_cons.specs.Bounds.{bound_fault_at, defaults_of}
-use Rattle.nf_cons.specs.Constrained.{constrained_labels, constrained_program, nonarc_column_at, side_name, side_row, with_columns, with_rows}
+use Rattle.nf_cons.specs.Constrained.{column_with, constrained_labels, constrained_program, nonarc_column_at, side_name, side_row, with_columns, with_rows}
 use Rattle.nf_cons.specs.Dense.{first_header_fault, first_row_fault, mentions}
 use Rattle.nf_cons.specs.Due.{bounds_fault, dense_constraints, dense_due, dense_fault, dense_of}
 use Rattle.nf_cons.specs.Making.{AreConstraints, AreInOrder, IsPlain}
@@ -22,7 +24,6 @@ use Rattle.nf_cons.specs.Places.{IsRowFaultOf, told}
 use Rattle.nf_cons.specs.Terms.{TermLists}
 use Rattle.nf_cons.specs.Variables.{Mention, arcs_of, homes, home_in, nonarcs}
 use Rattle.nf_cons.proofs.BoundFacts.{not-crossed}
-use Rattle.nf_cons.proofs.EntryFacts.{coef-arcs, coef-columns, coef-nodes, coef-rows}
 use Rattle.nf_cons.proofs.FaultFacts.{none-at, or-second}
 use Rattle.nf_cons.proofs.MakingFacts.{nonarcs-length}
 use Rattle.nf_network.specs.Excess.{joined_below}
@@ -33,11 +34,11 @@ arcs-number l h = length-take-le l.own_arcs l.columns h
 
 -- ---- faults
 pub dense-told : (o : ProcOptions) (n : Network) (roles : RoleColumns) (table : Grid) (f : RowFault) (e : DataFault) → IsRowFaultOf (dense_fault o (arcs_of n.labels) roles table) f
-    → (e.kind ≡ kind.NoMemory) ⊎ (e ≡ told roles table.header f) → (e.kind ≡ kind.NoMemory) ⊎ (dense_due o n roles table ≡ Err e)
+    → (e ≡ out_of_memory) ⊎ (e ≡ told roles table.header f) → (f.fault.kind ≡ kind.NoMemory → e ≡ out_of_memory) → (e ≡ out_of_memory) ⊎ (dense_due o n roles table ≡ Err e)
 unfolding dense_due
-dense-told o n roles table f e h (inl m) = inl m
-dense-told o n roles table f e (inl m) (inr t) = inl (ap (λ q. q.kind) t ∙ m)
-dense-told o n roles table f e (inr q) (inr t) = inr (rw (q, t) refl)
+dense-told o n roles table f e h (inl m) memory = inl m
+dense-told o n roles table f e (inl m) (inr t) memory = inl (memory m)
+dense-told o n roles table f e (inr q) (inr t) memory = inr (rw (q, t) refl)
 
 -- ---- bounds
 -- Without a fault of bounds, no bounds cross.
@@ -71,10 +72,7 @@ pub constrained-fit : (o : ProcOptions) (n : Network) → IsPlain n → (v : Var
 constrained-fit o n plain v ns ss ls =
     let arcs = n.labels.own_arcs in
     let base = with_rows (with_columns n.program (joined_below (length v.nonarcs) (nonarc_column_at o arcs ls))) (map side_row ss) in
-    let columns = coef-columns arcs (length n.program.columns) (length n.program.rows) base ls.coefficients in
-    let rows = ap length (coef-rows arcs (length n.program.columns) (length n.program.rows) base ls.coefficients) in
-    let nodes = coef-nodes arcs (length n.program.columns) (length n.program.rows) base ls.coefficients in
-    let columns_arcs = coef-arcs arcs (length n.program.columns) (length n.program.rows) base ls.coefficients in
+    let columns = length-map-range_with_len (column_with arcs (length n.program.columns) (length n.program.rows) (length ss) ls.coefficients base) 0 (length base.columns) in
     let made = length-append n.program.columns (joined_below (length v.nonarcs) (nonarc_column_at o arcs ls)) in
     let ones = nonarcs-length o arcs ls (length v.nonarcs) in
     let named = length-append n.labels.columns v.nonarcs in
@@ -83,9 +81,9 @@ constrained-fit o n plain v ns ss ls =
     let labelled = length-append n.labels.constraints (map (side_name ns) ss) in
     let label_count = map-length (side_name ns) ss in
     record {
-      nodes = plain.numbered.nodes ∙ sym nodes;
+      nodes = plain.numbered.nodes;
       columns = omega (arith, columns, made, ones, named, plain.numbered.columns);
-      constraints = omega (arith, rows, nodes, sides, side_count, labelled, label_count, plain.numbered.constraints);
-      own_arcs = omega (arith, columns_arcs, plain.numbered.own_arcs);
+      constraints = omega (arith, sides, side_count, labelled, label_count, plain.numbered.constraints);
+      own_arcs = plain.numbered.own_arcs;
       ids = plain.numbered.ids;
     }

@@ -11,8 +11,8 @@ use Rattle.nf_frac.specs.Amounts.{amount_value}
 use Rattle.nf_model.specs.Program.{Column, Entry, LinearProgram, column}
 use Rattle.nf_prob.specs.Building.{IsNew, inserted, with_entry}
 use Rattle.nf_cons.specs.declared.taken.Coefficient.{Coefficient}
-use Rattle.nf_cons.specs.Constrained.{column_of, with_coefficient, with_coefficients}
-use Rattle.nf_cons.specs.Making.{HasEntriesBelow, IsPlaced, are_apart, same_place}
+use Rattle.nf_cons.specs.Constrained.{column_of}
+use Rattle.nf_cons.specs.Making.{HasEntriesBelow, IsPlaced, are_apart, same_place, with_entries_of, with_entry_of}
 
 -- ---- an entry more
 free-inserted : (es : List Entry) (e : Entry) (i : ℕ) → All (λ d. d.row ≢ i) es → e.row ≢ i → All (λ d. d.row ≢ i) (inserted es e)
@@ -45,42 +45,46 @@ free-entry p j i k m v below free apart = by_cases (cases_Bool (nat_eq j k))
 
 -- ---- coefficients
 module _ (a n r : ℕ) where
-  pub coef-columns : (p : LinearProgram) (cs : List Coefficient) → length (with_coefficients a n r p cs).columns ≡ length p.columns
+  pub coef-columns : (p : LinearProgram) (cs : List Coefficient) → length (with_entries_of a n r p cs).columns ≡ length p.columns
   coef-columns p [] = refl
   coef-columns p (c ∷ cs) =
-      coef-columns (with_coefficient a n r p c) cs ∙ length-set p.columns (column_of a n c.variable) _
+      coef-columns (with_entry_of a n r p c) cs ∙ length-set p.columns (column_of a n c.variable) _
 
-  pub coef-rows : (p : LinearProgram) (cs : List Coefficient) → (with_coefficients a n r p cs).rows ≡ p.rows
+  pub coef-rows : (p : LinearProgram) (cs : List Coefficient) → (with_entries_of a n r p cs).rows ≡ p.rows
   coef-rows p [] = refl
-  coef-rows p (c ∷ cs) = coef-rows (with_coefficient a n r p c) cs
+  coef-rows p (c ∷ cs) = coef-rows (with_entry_of a n r p c) cs
 
-  pub coef-nodes : (p : LinearProgram) (cs : List Coefficient) → (with_coefficients a n r p cs).nodes ≡ p.nodes
+  pub coef-nodes : (p : LinearProgram) (cs : List Coefficient) → (with_entries_of a n r p cs).nodes ≡ p.nodes
   coef-nodes p [] = refl
-  coef-nodes p (c ∷ cs) = coef-nodes (with_coefficient a n r p c) cs
+  coef-nodes p (c ∷ cs) = coef-nodes (with_entry_of a n r p c) cs
 
-  pub coef-arcs : (p : LinearProgram) (cs : List Coefficient) → (with_coefficients a n r p cs).arcs ≡ p.arcs
+  pub coef-arcs : (p : LinearProgram) (cs : List Coefficient) → (with_entries_of a n r p cs).arcs ≡ p.arcs
   coef-arcs p [] = refl
-  coef-arcs p (c ∷ cs) = coef-arcs (with_coefficient a n r p c) cs
+  coef-arcs p (c ∷ cs) = coef-arcs (with_entry_of a n r p c) cs
+
+  pub coef-shape : (p : LinearProgram) (cs : List Coefficient) → with_entries_of a n r p cs ≡ record p { columns = (with_entries_of a n r p cs).columns }
+  coef-shape p [] = refl
+  coef-shape p (c ∷ cs) = coef-shape (with_entry_of a n r p c) cs
 
   -- a coefficient stands in this column and row
   abbrev is_at : ℕ → ℕ → Coefficient → Bool
   is_at j i c = nat_eq j (column_of a n c.variable) && nat_eq i (r + c.constraint)
 
   free-coefs : (p : LinearProgram) (cs : List Coefficient) (j i : ℕ) → All (λ c. column_of a n c.variable < length p.columns) cs → IsNew p j i → list_any (is_at j i) cs ≡ false
-      → IsNew (with_coefficients a n r p cs) j i
+      → IsNew (with_entries_of a n r p cs) j i
   free-coefs p [] j i inside free none = free
-  free-coefs p (c ∷ cs) j i inside free none = by_cases (cases_Bool (is_at j i c)) (free-coefs (with_coefficient a n r p c) cs j i)
+  free-coefs p (c ∷ cs) j i inside free none = by_cases (cases_Bool (is_at j i c)) (free-coefs (with_entry_of a n r p c) cs j i)
     where
       by_cases : (is_at j i c ≡ true) ⊎ (is_at j i c ≡ false)
-          → (All (λ q. column_of a n q.variable < length (with_coefficient a n r p c).columns) cs → IsNew (with_coefficient a n r p c) j i → list_any (is_at j i) cs ≡ false
-          → IsNew (with_coefficients a n r (with_coefficient a n r p c) cs) j i)
-          → IsNew (with_coefficients a n r p (c ∷ cs)) j i
+          → (All (λ q. column_of a n q.variable < length (with_entry_of a n r p c).columns) cs → IsNew (with_entry_of a n r p c) j i → list_any (is_at j i) cs ≡ false
+          → IsNew (with_entries_of a n r (with_entry_of a n r p c) cs) j i)
+          → IsNew (with_entries_of a n r p (c ∷ cs)) j i
       by_cases (inl e) after = absurd (false≢true (sym (rw e at none)))
       by_cases (inr e) after =
           let rest : list_any (is_at j i) cs ≡ false = rw e at none in
           let below = All-head (λ q. column_of a n q.variable < length p.columns) c cs inside in
-          let size : length (with_coefficient a n r p c).columns ≡ length p.columns = length-set p.columns (column_of a n c.variable) _ in
-          let others : All (λ q. column_of a n q.variable < length (with_coefficient a n r p c).columns) cs = rw size (All-tail (λ q. column_of a n q.variable < length p.columns) c cs inside) in
+          let size : length (with_entry_of a n r p c).columns ≡ length p.columns = length-set p.columns (column_of a n c.variable) _ in
+          let others : All (λ q. column_of a n q.variable < length (with_entry_of a n r p c).columns) cs = rw size (All-tail (λ q. column_of a n q.variable < length p.columns) c cs inside) in
           after others (free-entry p j i (column_of a n c.variable) (r + c.constraint) (amount_value c.value) below free e) rest
 
 -- A member of a list without the place of a coefficient is not of this place.
@@ -117,7 +121,7 @@ column-inside a n m v few small = by_cases (cases_lt v a)
     by_cases (inl l) = let e : nat_lt v a ≡ true = grind (arith, l) in rw e (omega (arith, l, few))
     by_cases (inr g) = let e : nat_lt v a ≡ false = grind (arith, g) in rw e (omega (arith, g, small))
 
-columns-apart : (a n v w : ℕ) → a ≤ n → column_of a n v ≡ column_of a n w → v ≡ w
+pub columns-apart : (a n v w : ℕ) → a ≤ n → column_of a n v ≡ column_of a n w → v ≡ w
 columns-apart a n v w few same = by_cases (cases_lt v a) (cases_lt w a)
   where
     by_cases : (v < a) ⊎ (a ≤ v) → (w < a) ⊎ (a ≤ w) → v ≡ w
@@ -164,7 +168,7 @@ module _ (a n r m q : ℕ) (p : LinearProgram) (cs : List Coefficient) (k : ℕ)
   free-first : (j i : ℕ) → j < length p.columns → r ≤ i → IsNew p j i
   free-first j i l high = All-weaker (λ e. e.row < r) (λ e. e.row ≢ i) (λ e h s. omega (arith, h, high, s)) (column p j).entries (All-get_or (HasEntriesBelow r) p.columns j _ l entries)
 
-  pub coef-new : IsNew (with_coefficients a n r p (take k cs)) (column_of a n (get_or cs k d).variable) (r + (get_or cs k d).constraint)
+  pub coef-new : IsNew (with_entries_of a n r p (take k cs)) (column_of a n (get_or cs k d).variable) (r + (get_or cs k d).constraint)
   coef-new =
       let j : column_of a n (get_or cs k d).variable < length p.columns = omega (arith, column-inside a n m (get_or cs k d).variable few here.0, wide) in
       free-coefs a n r p (take k cs) (column_of a n (get_or cs k d).variable) (r + (get_or cs k d).constraint) (All-take (λ c. column_of a n c.variable < length p.columns) k cs inside)
@@ -172,5 +176,5 @@ module _ (a n r m q : ℕ) (p : LinearProgram) (cs : List Coefficient) (k : ℕ)
       (any-apart a n r (get_or cs k d) (take k cs) few (apart-at cs k d apart below))
 
 pub coef-more : (a n r : ℕ) (p : LinearProgram) (cs : List Coefficient) (k : ℕ) (d : Coefficient) → k < length cs
-    → with_coefficient a n r (with_coefficients a n r p (take k cs)) (get_or cs k d) ≡ with_coefficients a n r p (take (k + 1) cs)
-coef-more a n r p cs k d below = sym (ap (with_coefficients a n r p) (take_more cs k d below) ∙ fold-append (with_coefficient a n r) p (take k cs) (get_or cs k d ∷ []))
+    → with_entry_of a n r (with_entries_of a n r p (take k cs)) (get_or cs k d) ≡ with_entries_of a n r p (take (k + 1) cs)
+coef-more a n r p cs k d below = sym (ap (with_entries_of a n r p) (take_more cs k d below) ∙ fold-append (with_entry_of a n r) p (take k cs) (get_or cs k d ∷ []))

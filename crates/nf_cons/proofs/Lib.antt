@@ -8,6 +8,7 @@ pub mod BoundFacts
 pub mod HeaderFacts
 pub mod MakingFacts
 pub mod EntryFacts
+pub mod FilledFacts
 pub mod ReadyFacts
 pub mod DenseWhole
 pub mod PlainFacts

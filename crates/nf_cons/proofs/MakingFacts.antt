@@ -14,8 +14,8 @@ use Rattle.nf_network.specs.Excess.{joined_below}
 use Rattle.nf_network.proofs.Lists.{joined-ones}
 use Rattle.nf_cons.specs.declared.taken.Coefficient.{Coefficient}
 use Rattle.nf_cons.specs.Bounds.{defaults_of, figures_of}
-use Rattle.nf_cons.specs.Constrained.{column_of, nonarc_column, nonarc_column_at, with_coefficient, with_coefficients, with_columns, with_rows}
-use Rattle.nf_cons.specs.Making.{HasEntriesBelow, IsPlaced, before}
+use Rattle.nf_cons.specs.Constrained.{column_of, nonarc_column, nonarc_column_at, with_columns, with_rows}
+use Rattle.nf_cons.specs.Making.{HasEntriesBelow, IsPlaced, before, with_entries_of, with_entry_of}
 use Rattle.nf_cons.specs.Terms.{TermLists}
 
 -- ---- lists with one member more
@@ -71,7 +71,7 @@ before-some (suc k) other n h = refl
 
 -- With no constraint there is no coefficient, and with no nonarc variable each is of an arc.
 pub same-coefs : (a n r m q : ℕ) (p : LinearProgram) (cs : List Coefficient) → All (IsPlaced (a + m) q) cs
-    → with_coefficients a (before m a n) (before q 0 r) p cs ≡ with_coefficients a n r p cs
+    → with_entries_of a (before m a n) (before q 0 r) p cs ≡ with_entries_of a n r p cs
 same-coefs a n r m zero p [] placed = refl
 same-coefs a n r m zero p (c ∷ cs) placed = absurd (none-below (All-head (IsPlaced (a + m) zero) c cs placed).1)
   where
@@ -83,11 +83,11 @@ same-coefs a n r zero (suc q) p cs placed = by_list p cs placed
     same-column : (v : ℕ) → v < a + 0 → column_of a a v ≡ column_of a n v
     same-column v h = let e : nat_lt v a ≡ true = grind (arith, h) in rw e refl
 
-    by_list : (b : LinearProgram) (es : List Coefficient) → All (IsPlaced (a + 0) (suc q)) es → with_coefficients a a r b es ≡ with_coefficients a n r b es
+    by_list : (b : LinearProgram) (es : List Coefficient) → All (IsPlaced (a + 0) (suc q)) es → with_entries_of a a r b es ≡ with_entries_of a n r b es
     by_list b [] h = refl
     by_list b (e ∷ es) h =
         rw (same-column e.variable (All-head (IsPlaced (a + 0) (suc q)) e es h).0)
-        (by_list (with_coefficient a n r b e) es (All-tail (IsPlaced (a + 0) (suc q)) e es h))
+        (by_list (with_entry_of a n r b e) es (All-tail (IsPlaced (a + 0) (suc q)) e es h))
 
 -- Nonarc variables stand in no node row.
 pub nonarcs-empty : (o : ProcOptions) (arcs : ℕ) (ls : TermLists) (n k : ℕ) → All (HasEntriesBelow n) (joined_below k (nonarc_column_at o arcs ls))

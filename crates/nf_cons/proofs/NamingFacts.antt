@@ -1,7 +1,7 @@
 -- Facts on variables by their names.
 use Rattle.std.proofs.Common.{◌≡◌, ◌<◌, ◌≤◌, ◌||◌, ◌+◌, ◌++◌, ◌⊎◌, ℕ, Bool, true, false, not, List, [], ◌∷◌, Some, None, if◌then◌else◌, length, map, filter, get_or, refl, sym, ap, ◌∙◌, inl, inr, arith, append_assoc}
 use Rattle.std.proofs.lemmas.Bool.{false≢true, cases_Bool}
-use Rattle.std.proofs.lemmas.List.{append-nil, map-append, get_or-map}
+use Rattle.std.proofs.lemmas.List.{append-nil, length-append, map-append, get_or-map}
 use Rattle.std.proofs.lemmas.List.Elements.{filter-append}
 use Rattle.std.proofs.lemmas.List.Sums.{prefix_len-le-length}
 use Rattle.std.specs.Bool.{nat_lt}
@@ -9,7 +9,7 @@ use Rattle.std.specs.Option.{is_some}
 use Rattle.std.specs.Str.{bytes_eq}
 use Rattle.nf_cells.specs.Cells.{is_blank, is_name}
 use Rattle.nf_cells.specs.Names.{Name, first_seen, has_name, number_of, place_of, with_name}
-use Rattle.nf_cells.proofs.SeenFacts.{at-place, eq-self, first_seen-push, has-added, place-less, place-other, same}
+use Rattle.nf_cells.proofs.SeenFacts.{at-place, eq-self, first_seen-push, has-added, place-less, same}
 use Rattle.nf_network.proofs.PassFacts.{map-length, place-added}
 use Rattle.nf_cons.specs.declared.places.Home.{Home}
 use Rattle.nf_cons.specs.declared.places.PlacedFault.{PlacedFault}
@@ -33,30 +33,43 @@ within n ks h = grind (arith, h)
 pub place-most : (n : Name) (ks : List Name) → place_of n ks ≤ length ks
 place-most n ks = prefix_len-le-length (λ m. not (bytes_eq n m)) ks
 
-pub add-old : (v : VariableList) (n : Name) (home : Home) (i k : ℕ) → length v.homes ≡ length v.nonarcs → length (with_name v.nonarcs n) ≤ most_nonarcs
-    → i ≡ place_of n v.nonarcs → i < length v.homes → k ≡ v.arcs.count
-    → (first_of (limit_faults v n home) ≡ None) × (k + i ≡ v.arcs.count + place_of n v.nonarcs)
-    × (record { arcs = v.arcs; nonarcs = with_name v.nonarcs n; homes = v.homes } ≡ with_nonarc v (record { variable = n; home = home }))
-add-old v n home i k even small is below count =
-    let there : has_name n v.nonarcs ≡ true = place-other n v.nonarcs (λ e. omega (arith, is, below, even, e)) in
-    (rw (within n v.nonarcs small) refl, rw (is, count) refl, rw there refl)
-
-pub add-new : (v : VariableList) (n : Name) (home : Home) (i k : ℕ) → length v.homes ≡ length v.nonarcs → length (with_name v.nonarcs n) ≤ most_nonarcs
-    → i ≡ place_of n v.nonarcs → length v.homes ≤ i → k ≡ v.arcs.count
-    → (first_of (limit_faults v n home) ≡ None) × (k + i ≡ v.arcs.count + place_of n v.nonarcs)
-    × (record { arcs = v.arcs; nonarcs = with_name v.nonarcs n; homes = v.homes ++ home ∷ [] } ≡ with_nonarc v (record { variable = n; home = home }))
-add-new v n home i k even small is above count = by_cases (cases_Bool (has_name n v.nonarcs))
+-- A name without a number is not there.
+pub not-found : (n : Name) (ks : List Name) → number_of n ks ≡ None → has_name n ks ≡ false
+not-found n ks h = by_cases (cases_Bool (has_name n ks))
   where
-    by_cases : (has_name n v.nonarcs ≡ true) ⊎ (has_name n v.nonarcs ≡ false) → (first_of (limit_faults v n home) ≡ None) × (k + i ≡ v.arcs.count + place_of n v.nonarcs)
-        × (record { arcs = v.arcs; nonarcs = with_name v.nonarcs n; homes = v.homes ++ home ∷ [] } ≡ with_nonarc v (record { variable = n; home = home }))
-    by_cases (inl e) = absurd (omega (arith, place-less n v.nonarcs e, is, above, even))
-    by_cases (inr e) = (rw (within n v.nonarcs small) refl, rw (is, count) refl, rw e refl)
+    by_cases : (has_name n ks ≡ true) ⊎ (has_name n ks ≡ false) → has_name n ks ≡ false
+    by_cases (inl e) =
+        let below = place-less n ks e in
+        let is : number_of n ks ≡ Some (place_of n ks) = grind (arith, below) in
+        let s : None ≡ Some (place_of n ks) = sym h ∙ is in
+        absurd (cc)
+    by_cases (inr e) = e
 
 -- The place of a name that is not there is the end.
 pub absent-place : (n : Name) (ks : List Name) → has_name n ks ≡ false → place_of n ks ≡ length ks
 absent-place n ks h =
     let end : place_of n ks ≡ length ks + 0 = ap (place_of n) (sym (append-nil ks)) ∙ place-back n ks [] h in
     omega (arith, end)
+
+pub add-old : (v : VariableList) (n : Name) (home : Home) (i k : ℕ) → length v.nonarcs ≤ most_nonarcs → i ≡ place_of n v.nonarcs → has_name n v.nonarcs ≡ true → k ≡ v.arcs.count
+    → (first_of (limit_faults v n home) ≡ None) × (k + i ≡ v.arcs.count + place_of n v.nonarcs) × (v ≡ with_nonarc v (record { variable = n; home = home }))
+add-old v n home i k few is there count = (rw (within n v.nonarcs (rw there few)) refl, rw (is, count) refl, rw there refl)
+
+pub add-new : (v new : VariableList) (n : Name) (home : Home) (i : ℕ) → length v.nonarcs < most_nonarcs → has_name n v.nonarcs ≡ false → i ≡ v.arcs.count + length v.nonarcs
+    → new ≡ record v { nonarcs = v.nonarcs ++ n ∷ []; homes = v.homes ++ home ∷ [] }
+    → (first_of (limit_faults v n home) ≡ None) × (i ≡ v.arcs.count + place_of n v.nonarcs) × (new ≡ with_nonarc v (record { variable = n; home = home }))
+add-new v new n home i few absent is grown =
+    let size = length-append v.nonarcs (n ∷ []) in
+    let small : length (with_name v.nonarcs n) ≤ most_nonarcs = rw absent (omega (arith, size, few)) in
+    (rw (within n v.nonarcs small) refl, rw (absent-place n v.nonarcs absent) is, rw absent grown)
+
+-- A new name is one too many if there are as many as there may be.
+pub add-full : (v : VariableList) (n : Name) (home : Home) → most_nonarcs ≤ length v.nonarcs → has_name n v.nonarcs ≡ false
+    → IsFaultOf (first_of (limit_faults v n home)) (record { place = home.place; kind = kind.LimitPassed })
+add-full v n home full absent =
+    let size = length-append v.nonarcs (n ∷ []) in
+    let more : nat_lt most_nonarcs (length (v.nonarcs ++ n ∷ [])) ≡ true = grind (arith, size, full) in
+    rw (absent, more) (inr refl)
 
 -- ---- a column
 -- A name is there where its place is below the length.

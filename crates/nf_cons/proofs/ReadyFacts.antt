@@ -12,8 +12,6 @@ use Rattle.std.specs.Option.{is_some}
 use Rattle.nf_frac.specs.declared.amount.Amount.{Amount}
 use Rattle.nf_cells.specs.declared.values.Cell.{Cell}
 use Rattle.nf_cells.specs.declared.values.Cell.TheVariants.{Missing, Bad, Is}
-use Rattle.nf_cells.specs.declared.values.Bound.{Bound}
-use Rattle.nf_cells.specs.declared.values.Bound.TheVariants.{Finite, Infinite}
 use Rattle.nf_model.specs.declared.RowKind.{RowKind}
 use Rattle.nf_program.specs.declared.program.Role.TheVariants as role
 use Rattle.nf_roles.specs.declared.fault.DataKind.TheVariants as kind
@@ -22,6 +20,8 @@ use Rattle.nf_network.specs.Faults.{is_bad}
 use Rattle.nf_network.proofs.Lists.{joined-more, joined-none}
 use Rattle.nf_cons.specs.declared.places.Place.TheVariants.{OfRole}
 use Rattle.nf_cons.specs.declared.taken.Coefficient.{Coefficient}
+use Rattle.nf_cons.specs.declared.value.Value.{Value}
+use Rattle.nf_cons.specs.declared.value.Value.TheVariants.{Finite, NoUpper, NoLower}
 use Rattle.nf_cons.specs.Dense.{Dense, cell_at, first_row_fault, given_at, given_before, given_by, given_in, givens, most_constraints, right_at, row_at, row_fault_at, side_at, side_if, sides, type_at}
 use Rattle.nf_cons.specs.Making.{IsPlaced, are_apart, same_place}
 use Rattle.nf_cons.specs.Places.{fault_if, in_row}
@@ -93,12 +93,13 @@ cell-all : (d : Dense) (k i : ℕ) (P : Coefficient → Type 0)
 unfolding given_at
 cell-all d k i P h = by_cell (cell_at d k i)
   where
-    by_type : (b : Bool) → is_side (type_at d k) ≡ b → (x : Bound) → All P (coefs (given_by (type_at d k) d.arcs (get_or d.columns i 0) (get_or d.variables i 0) (length (sides d k)) (k + 1) (Is x)))
+    by_type : (b : Bool) → is_side (type_at d k) ≡ b → (x : Value) → All P (coefs (given_by (type_at d k) d.arcs (get_or d.columns i 0) (get_or d.variables i 0) (length (sides d k)) (k + 1) (Is x)))
     by_type false e x = rw e (All-nil P)
     by_type true e (Finite a) = rw e (All-cons P (record { variable = get_or d.variables i 0; constraint = length (sides d k); value = a }) [] (h e a) (All-nil P))
-    by_type true e Infinite = rw e (All-nil P)
+    by_type true e NoUpper = rw e (All-nil P)
+    by_type true e NoLower = rw e (All-nil P)
 
-    by_cell : (cell : Cell Bound) → All P (coefs (given_by (type_at d k) d.arcs (get_or d.columns i 0) (get_or d.variables i 0) (length (sides d k)) (k + 1) cell))
+    by_cell : (cell : Cell Value) → All P (coefs (given_by (type_at d k) d.arcs (get_or d.columns i 0) (get_or d.variables i 0) (length (sides d k)) (k + 1) cell))
     by_cell Missing = All-nil P
     by_cell Bad = All-nil P
     by_cell (Is x) = by_type (is_side (type_at d k)) refl x
@@ -107,13 +108,14 @@ cell-apart : (d : Dense) (k i : ℕ) → are_apart (coefs (given_at d k i)) ≡ 
 unfolding given_at are_apart
 cell-apart d k i = by_cell (cell_at d k i)
   where
-    by_type : (b : Bool) → is_side (type_at d k) ≡ b → (x : Bound)
+    by_type : (b : Bool) → is_side (type_at d k) ≡ b → (x : Value)
         → are_apart (coefs (given_by (type_at d k) d.arcs (get_or d.columns i 0) (get_or d.variables i 0) (length (sides d k)) (k + 1) (Is x))) ≡ true
     by_type false e x = rw e refl
     by_type true e (Finite a) = rw e refl
-    by_type true e Infinite = rw e refl
+    by_type true e NoUpper = rw e refl
+    by_type true e NoLower = rw e refl
 
-    by_cell : (cell : Cell Bound) → are_apart (coefs (given_by (type_at d k) d.arcs (get_or d.columns i 0) (get_or d.variables i 0) (length (sides d k)) (k + 1) cell)) ≡ true
+    by_cell : (cell : Cell Value) → are_apart (coefs (given_by (type_at d k) d.arcs (get_or d.columns i 0) (get_or d.variables i 0) (length (sides d k)) (k + 1) cell)) ≡ true
     by_cell Missing = refl
     by_cell Bad = refl
     by_cell (Is x) = by_type (is_side (type_at d k)) refl x

@@ -3,11 +3,11 @@ use Rattle.std.proofs.Common.{◌≡◌, ◌<◌, ◌++◌, ℕ, zero, suc, fals
 use Rattle.std.proofs.lemmas.List.{append-nil}
 use Rattle.std.proofs.lemmas.Grind.{flat_map-append}
 use Rattle.std.specs.List.{fold}
-use Rattle.nf_cells.specs.declared.values.Bound.{Bound}
 use Rattle.nf_cells.specs.declared.values.Cell.TheVariants.{Is}
 use Rattle.nf_cons.specs.declared.places.PlacedFault.{PlacedFault}
-use Rattle.nf_cons.specs.declared.types.RowType.{RowType}
-use Rattle.nf_cons.specs.declared.types.RowType.TheVariants.{Le, Ge, Eq, Cost, Lower, Upper}
+use Rattle.nf_cons.specs.declared.row_type.RowType.{RowType}
+use Rattle.nf_cons.specs.declared.value.Value.{Value}
+use Rattle.nf_cons.specs.declared.row_type.RowType.TheVariants.{Le, Ge, Eq, Cost, Lower, Upper}
 use Rattle.nf_cons.specs.Places.{IsFaultOf, first_of}
 use Rattle.nf_cons.specs.Terms.{Gift, Given, TermLists, coefficient_of, gift_of, gift_to, is_given, lists_of, term_faults, with_given}
 use Rattle.nf_cons.specs.Dense.{cell_faults, cell_term}
@@ -17,7 +17,7 @@ use Rattle.nf_cons.proofs.FaultFacts.{first-append, left}
 pub none-given : (v : ℕ) (gs : List Gift) → is_given v gs ≡ false → gift_to v gs ≡ None
 none-given v gs h = by_cases (gift_to v gs) h
   where
-    by_cases : (o : Option (Bound × ℕ)) → Rattle.std.specs.Option.is_some o ≡ false → o ≡ None
+    by_cases : (o : Option (Value × ℕ)) → Rattle.std.specs.Option.is_some o ≡ false → o ≡ None
     by_cases None e = refl
     by_cases (Some x) e = absurd (cc)
 
@@ -47,7 +47,7 @@ lists-more gs g =
     by_type Upper e = rw e (rw (append-nil (lists_of gs).coefficients, append-nil (lists_of gs).costs, append-nil (lists_of gs).lowers) refl)
 
 -- ---- cells of dense rows
-pub cell-term-fault : (t : RowType) (arcs c v : ℕ) (before : TermLists) (count : ℕ) (x : Bound) (f : PlacedFault) → IsFaultOf (first_of (term_faults t (cell_term arcs c v x) before)) f
+pub cell-term-fault : (t : RowType) (arcs c v : ℕ) (before : TermLists) (count : ℕ) (x : Value) (f : PlacedFault) → IsFaultOf (first_of (term_faults t (cell_term arcs c v x) before)) f
     → IsFaultOf (first_of (cell_faults t arcs c v before count (Is x))) f
 cell-term-fault t arcs c v before count x f h = rw (first-append (term_faults t (cell_term arcs c v x) before) _) (left _ _ f h)
 

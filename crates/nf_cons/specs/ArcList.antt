@@ -1,5 +1,5 @@
--- The arcs by their names, as they are looked up.
--- The contracts of `ArcNames`, and by them the numbers of arcs in CONDATA, rest on these words.
+-- Working definitions, on which no promise of `dense` or `sparse` rests: the arcs by their names, as they are looked up.
+-- The contracts of `ArcNames` rest on these words.
 use Rattle.std.specs.Prelude.{◌≡◌, ◌+◌, ◌++◌, ℕ, true, false, List, [], ◌∷◌, Option, if◌then◌else◌, length, map, get_or, slice_set, option_map}
 use Rattle.std.specs.Bool.{nat_lt}
 use Rattle.nf_cells.specs.Names.{Name, first_seen, is_once, number_of, place_of, with_name}

@@ -1,10 +1,10 @@
--- The cost and bounds of nonarc variables, and where bounds that cross are told.
+-- The cost and bounds of nonarc variables, and where bounds that cross are reported.
 -- The columns of nonarc variables and the fault CrossedBounds of CONDATA rest on these words.
-use Rattle.std.specs.Prelude.{◌+◌, ℕ, pos, Option, Some, None, List, length, get_or, if◌then◌else◌, unwrap_or}
+use Rattle.std.specs.Prelude.{◌+◌, ℕ, pos, Bool, false, Option, Some, None, List, length, get_or, if◌then◌else◌, unwrap_or}
 use Rattle.std.specs.Bool.{nat_lt}
 use Rattle.nf_frac.specs.declared.amount.Amount.{Amount}
 use Rattle.nf_cells.specs.declared.values.Bound.{Bound}
-use Rattle.nf_cells.specs.declared.values.Bound.TheVariants.{Finite, Infinite}
+use Rattle.nf_cells.specs.declared.values.Bound.TheVariants as bound
 use Rattle.nf_program.specs.declared.program.ProcOptions.{ProcOptions}
 use Rattle.nf_roles.specs.declared.fault.DataKind.TheVariants as kind
 use Rattle.nf_roles.specs.First.{first_below}
@@ -14,36 +14,54 @@ use Rattle.nf_cons.specs.declared.places.Home.{Home}
 use Rattle.nf_cons.specs.declared.places.Place.TheVariants.{Column}
 use Rattle.nf_cons.specs.declared.places.RowFault.{RowFault}
 use Rattle.nf_cons.specs.declared.taken.Figures.{Figures}
+use Rattle.nf_cons.specs.declared.value.Value.{Value}
+use Rattle.nf_cons.specs.declared.value.Value.TheVariants.{Finite, NoUpper, NoLower}
 use Rattle.nf_cons.specs.Terms.{TermLists, gift_to}
 
 -- What a nonarc variable has where no row gives it: DEFCOST or 0, DEFMINFLOW or 0, DEFCAPACITY or no bound.
 abbrev pub defaults_of : ProcOptions → Figures
 defaults_of o = record {
   cost = unwrap_or o.defcost (record { thousandths = pos 0 });
-  lower = unwrap_or o.defminflow (record { thousandths = pos 0 });
+  lower = Some (unwrap_or o.defminflow (record { thousandths = pos 0 }));
   upper = bound_or_infinite o.defcapacity;
 }
 
--- The amount or the bound of a gift, or else a default.
-abbrev pub amount_or : Amount → Option (Bound × ℕ) → Amount
-amount_or default None = default
-amount_or default (Some (Finite a, row)) = a
-amount_or default (Some (Infinite, row)) = default
+-- The cost that a row gives, or else a default.
+abbrev pub cost_or : Amount → Option (Value × ℕ) → Amount
+cost_or default None = default
+cost_or default (Some (Finite a, row)) = a
+cost_or default (Some (NoUpper, row)) = default
+cost_or default (Some (NoLower, row)) = default
 
-abbrev pub bound_or : Bound → Option (Bound × ℕ) → Bound
-bound_or default None = default
-bound_or default (Some g) = g.0
+-- The lower bound that a LOWERBD row gives, which may be none, or else a default.
+abbrev pub lower_or : Option Amount → Option (Value × ℕ) → Option Amount
+lower_or default None = default
+lower_or default (Some (Finite a, row)) = Some a
+lower_or default (Some (NoUpper, row)) = default
+lower_or default (Some (NoLower, row)) = None
+
+-- The upper bound that an UPPERBD row gives, which may be none, or else a default.
+abbrev pub upper_or : Bound → Option (Value × ℕ) → Bound
+upper_or default None = default
+upper_or default (Some (Finite a, row)) = bound.Finite a
+upper_or default (Some (NoUpper, row)) = bound.Infinite
+upper_or default (Some (NoLower, row)) = default
 
 -- The cost and bounds of a nonarc variable.
 abbrev pub figures_of : Figures → TermLists → ℕ → Figures
 figures_of d ls v = record {
-  cost = amount_or d.cost (gift_to v ls.costs);
-  lower = amount_or d.lower (gift_to v ls.lowers);
-  upper = bound_or d.upper (gift_to v ls.uppers);
+  cost = cost_or d.cost (gift_to v ls.costs);
+  lower = lower_or d.lower (gift_to v ls.lowers);
+  upper = upper_or d.upper (gift_to v ls.uppers);
 }
 
+-- Bounds cross if both are there, and the upper one is less than the lower one.
+abbrev pub bounds_cross : Option Amount → Bound → Bool
+bounds_cross None upper = false
+bounds_cross (Some lower) upper = are_crossed lower upper
+
 -- The later of the rows of two gifts.
-abbrev pub later_row : Option (Bound × ℕ) → Option (Bound × ℕ) → Option ℕ
+abbrev pub later_row : Option (Value × ℕ) → Option (Value × ℕ) → Option ℕ
 later_row None None = None
 later_row None (Some h) = Some h.1
 later_row (Some g) None = Some g.1
@@ -53,7 +71,7 @@ later_row (Some g) (Some h) = Some (if nat_lt g.1 h.1 then h.1 else g.1)
 abbrev pub bound_row : TermLists → ℕ → Option ℕ
 bound_row ls v = later_row (gift_to v ls.lowers) (gift_to v ls.uppers)
 
--- Bounds that cross are told in the last row that gave one, or else where the variable first stands.
+-- Bounds that cross are reported in the last row that gave one, or else where the variable first stands.
 abbrev pub crossed_at : Home → Option ℕ → RowFault
 crossed_at home row = record { row = unwrap_or row home.row; fault = record { place = home.place; kind = kind.CrossedBounds } }
 
@@ -64,7 +82,7 @@ no_home = record { row = 0; place = Column 0 }
 abbrev pub bound_fault_at : ℕ → Figures → List Home → TermLists → ℕ → Option RowFault
 bound_fault_at arcs d hs ls k =
     let f = figures_of d ls (arcs + k) in
-    if are_crossed f.lower f.upper then Some (crossed_at (get_or hs k no_home) (bound_row ls (arcs + k))) else None
+    if bounds_cross f.lower f.upper then Some (crossed_at (get_or hs k no_home) (bound_row ls (arcs + k))) else None
 
 -- The first fault of bounds, by the number of the variable.
 abbrev pub first_bound_fault : ℕ → Figures → List Home → TermLists → Option RowFault

@@ -6,10 +6,9 @@ use Rattle.nf_frac.specs.declared.amount.Amount.{Amount}
 use Rattle.nf_table.specs.Grid.{Cells}
 use Rattle.nf_cells.specs.Cells.{is_blank, value_of}
 use Rattle.nf_cells.specs.Names.{Name, has_name}
-use Rattle.nf_cells.specs.Values.{name_in, amount_in, bound_in}
+use Rattle.nf_cells.specs.Values.{name_in, amount_in}
 use Rattle.nf_cells.specs.declared.values.Cell.{Cell}
 use Rattle.nf_cells.specs.declared.values.Cell.TheVariants.{Missing, Bad, Is}
-use Rattle.nf_cells.specs.declared.values.Bound.{Bound}
 use Rattle.nf_model.specs.declared.RowKind.{RowKind}
 use Rattle.nf_program.specs.declared.program.Role.TheVariants as role
 use Rattle.nf_roles.specs.declared.fault.DataKind.TheVariants as kind
@@ -23,8 +22,10 @@ use Rattle.nf_cons.specs.declared.places.PlacedFault.{PlacedFault}
 use Rattle.nf_cons.specs.declared.places.RowFault.{RowFault}
 use Rattle.nf_cons.specs.declared.taken.SideRow.{SideRow}
 use Rattle.nf_cons.specs.declared.taken.Term.{Term}
-use Rattle.nf_cons.specs.declared.types.RowType.{RowType}
+use Rattle.nf_cons.specs.declared.row_type.RowType.{RowType}
+use Rattle.nf_cons.specs.declared.value.Value.{Value}
 use Rattle.nf_cons.specs.Types.{is_side, side_kind, type_in}
+use Rattle.nf_cons.specs.Values.{value_in}
 use Rattle.nf_cons.specs.Places.{fault_if, first_of, in_row}
 use Rattle.nf_cons.specs.Variables.{Mention, names_in, variable_faults}
 use Rattle.nf_cons.specs.Terms.{Given, TermLists, lists_of, term_faults}
@@ -59,7 +60,7 @@ pub record DenseRow : Type 0 where
   pub name : Cell Name
   pub row_type : Cell RowType
   pub right : Cell Amount
-  pub cells : List (Cell Bound)
+  pub cells : List (Cell Value)
 
 -- A row, read by roles.
 abbrev pub dense_row : RoleColumns → Cells → DenseRow
@@ -67,7 +68,7 @@ dense_row roles cells = record {
   name = name_in (cell_for roles role.Row cells);
   row_type = type_in (cell_for roles role.ConKind cells);
   right = amount_in (cell_for roles role.Rhs cells);
-  cells = map (λ c. bound_in (get_or cells c [])) roles.variables;
+  cells = map (λ c. value_in (get_or cells c [])) roles.variables;
 }
 
 abbrev pub no_row : DenseRow
@@ -116,16 +117,16 @@ sides d k = joined_below k (side_at d)
 
 -- ---- the cells of variables
 -- A value in the column c of a variable v, where so many variables are arcs.
-abbrev pub cell_term : ℕ → ℕ → ℕ → Bound → Term
+abbrev pub cell_term : ℕ → ℕ → ℕ → Value → Term
 cell_term arcs c v x = record { variable = v; is_arc = nat_lt v arcs; value = x; named_at = Column c; given_at = Column c }
 
 -- What a cell gives, if it says a value: a missing cell is no coefficient.
-abbrev pub given_by : RowType → ℕ → ℕ → ℕ → ℕ → ℕ → Cell Bound → List Given
+abbrev pub given_by : RowType → ℕ → ℕ → ℕ → ℕ → ℕ → Cell Value → List Given
 given_by t arcs c v constraint n Missing = []
 given_by t arcs c v constraint n Bad = []
 given_by t arcs c v constraint n (Is x) = record { row_type = t; term = cell_term arcs c v x; constraint = constraint; row = n } ∷ []
 
-abbrev pub cell_at : Dense → ℕ → ℕ → Cell Bound
+abbrev pub cell_at : Dense → ℕ → ℕ → Cell Value
 cell_at d k i = get_or (row_at d k).cells i Missing
 
 -- What cell i of row k gives; its constraint has as number that of the constraints above.
@@ -168,7 +169,7 @@ abbrev pub right_faults : Cell Amount → List (Option PlacedFault)
 right_faults cell = fault_if (is_bad cell) (OfRole role.Rhs) kind.Amount ∷ []
 
 -- The faults of a cell in the column c of a variable v, where so much was given before.
-abbrev pub cell_faults : RowType → ℕ → ℕ → ℕ → TermLists → ℕ → Cell Bound → List (Option PlacedFault)
+abbrev pub cell_faults : RowType → ℕ → ℕ → ℕ → TermLists → ℕ → Cell Value → List (Option PlacedFault)
 cell_faults t arcs c v before count Missing = []
 cell_faults t arcs c v before count Bad = fault_if true (Column c) kind.Amount ∷ []
 cell_faults t arcs c v before count (Is x) =

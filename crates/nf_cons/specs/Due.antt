@@ -57,7 +57,7 @@ unfoldable pub dense_due : ProcOptions → Network → RoleColumns → Grid → 
 dense_due o n roles table =
     unless_fault roles table.header (dense_fault o (arcs_of n.labels) roles table) (constrained o n (dense_constraints o (arcs_of n.labels) roles table))
 
--- A network is that of two tables, which one call of `network` with these options answers.
+-- A network is that of two tables, which one call of `network` with these options makes.
 pub record IsNetworkOf (o : ProcOptions) (n : Network) : Type 0 where
   pub arc_roles : RoleColumns
   pub arcs : Grid

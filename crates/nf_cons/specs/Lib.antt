@@ -1,8 +1,9 @@
 pub mod Types
+pub mod Values
 pub mod Places
 pub mod Variables
 pub mod Terms
-pub mod TermsInside
+pub mod GiftsInside
 pub mod Bounds
 pub mod Constrained
 pub mod Dense

@@ -1,17 +1,18 @@
--- What was read of CONDATA can be added to a network: its numbers are in range, and no coefficient is given twice.
--- The step from what is read to the problem rests on it.
+-- Working definitions, on which no promise of `dense` or `sparse` rests: what was read of CONDATA can be added to a network,
+-- since its numbers are in range and no coefficient is given twice, and how the builder adds it.
 use Rattle.std.specs.Prelude.{◌≡◌, ◌≤◌, ◌<◌, ◌^◌, ◌+◌, ◌&&◌, ℕ, zero, suc, Bool, true, false, not, List, [], ◌∷◌, length, nat_eq}
-use Rattle.std.specs.List.{All, list_any}
+use Rattle.std.specs.List.{All, fold, list_any}
+use Rattle.nf_frac.specs.Amounts.{amount_value}
 use Rattle.nf_cells.specs.Names.{Name}
-use Rattle.nf_model.specs.Program.{Column}
+use Rattle.nf_model.specs.Program.{Column, LinearProgram}
+use Rattle.nf_prob.specs.Building.{with_entry}
 use Rattle.nf_labels.specs.Labels.{AreNumbered}
-use Rattle.nf_network.specs.Faults.{are_crossed}
 use Rattle.nf_network.specs.Network.{Network}
 use Rattle.nf_cons.specs.declared.taken.Coefficient.{Coefficient}
 use Rattle.nf_cons.specs.declared.taken.Figures.{Figures}
 use Rattle.nf_cons.specs.declared.taken.SideRow.{SideRow}
-use Rattle.nf_cons.specs.Bounds.{figures_of}
-use Rattle.nf_cons.specs.Constrained.{Constraints}
+use Rattle.nf_cons.specs.Bounds.{bounds_cross, figures_of}
+use Rattle.nf_cons.specs.Constrained.{Constraints, column_of}
 use Rattle.nf_cons.specs.Dense.{most_constraints}
 use Rattle.nf_cons.specs.Naming.{IsSound, VariableList}
 use Rattle.nf_cons.specs.Terms.{TermLists}
@@ -48,12 +49,20 @@ pub record AreConstraints (arcs : List Name) (c : Constraints) (v : VariableList
 
 -- The bounds of nonarc variables do not cross.
 abbrev pub AreInOrder : Figures → ℕ → TermLists → ℕ → Type 0
-AreInOrder d arcs ls nonarcs = (k : ℕ) → k < nonarcs → are_crossed (figures_of d ls (arcs + k)).lower (figures_of d ls (arcs + k)).upper ≡ false
+AreInOrder d arcs ls nonarcs = (k : ℕ) → k < nonarcs → bounds_cross (figures_of d ls (arcs + k)).lower (figures_of d ls (arcs + k)).upper ≡ false
 
 -- How many there were before, where some were added; else another number.
 abbrev pub before : ℕ → ℕ → ℕ → ℕ
 before zero other n = other
 before (suc k) other n = n
+
+-- A program with the entry of one more coefficient, where there were so many columns and rows before, and with those of
+-- some, one after the other: so the builder adds them.
+abbrev pub with_entry_of : ℕ → ℕ → ℕ → LinearProgram → Coefficient → LinearProgram
+with_entry_of arcs columns rows p c = with_entry p (column_of arcs columns c.variable) (rows + c.constraint) (amount_value c.value)
+
+abbrev pub with_entries_of : ℕ → ℕ → ℕ → LinearProgram → List Coefficient → LinearProgram
+with_entries_of arcs columns rows p cs = fold (with_entry_of arcs columns rows) p cs
 
 -- A network without constraints: one label for each part, no side row, and entries at nodes alone.
 abbrev pub HasEntriesBelow : ℕ → Column → Type 0

@@ -1,4 +1,5 @@
--- What naming a variable finds and leaves, by the arcs and nonarc variables so far.
+-- Working definitions, on which no promise of `dense` or `sparse` rests: what naming a variable finds and leaves, by the arcs
+-- and nonarc variables so far.
 -- The contracts of `Variables`, and of the passes over CONDATA, rest on it.
 use Rattle.std.specs.Prelude.{◌≡◌, ◌≤◌, ◌<◌, ◌^◌, ◌+◌, ◌++◌, ◌||◌, ℕ, Bool, false, not, List, [], ◌∷◌, Option, Some, None, if◌then◌else◌, length}
 use Rattle.std.specs.Option.{is_some}

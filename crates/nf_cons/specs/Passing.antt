@@ -1,5 +1,5 @@
--- How the passes over CONDATA stand after some columns, rows or lines.
--- The promises of `read_header`, `read_dense` and `read_sparse` rest on it.
+-- Working definitions, on which no promise of `dense` or `sparse` rests: how the passes over CONDATA stand after some columns,
+-- rows or lines. The contracts of `read_header`, `read_dense` and `read_sparse` rest on them.
 use Rattle.std.specs.Prelude.{◌≡◌, ◌≤◌, ◌+◌, ℕ, List, ◌∷◌, Option, length, map}
 use Rattle.std.specs.List.{fold}
 use Rattle.nf_table.specs.Grid.{Grid}
@@ -9,7 +9,7 @@ use Rattle.nf_roles.specs.declared.fault.DataKind.TheVariants as kind
 use Rattle.nf_roles.specs.Roles.{RoleColumns}
 use Rattle.nf_cons.specs.declared.places.PlacedFault.{PlacedFault}
 use Rattle.nf_cons.specs.declared.taken.SideRow.{SideRow}
-use Rattle.nf_cons.specs.declared.types.RowType.{RowType}
+use Rattle.nf_cons.specs.declared.row_type.RowType.{RowType}
 use Rattle.nf_cons.specs.ArcList.{AreArcs}
 use Rattle.nf_cons.specs.Places.{fault_if}
 use Rattle.nf_cons.specs.Variables.{Mention, homes, nonarcs, number_in}

@@ -1,5 +1,5 @@
--- Where a fault of CONDATA stands, and how it is told.
--- The promise of `dense` and `sparse` to tell the first fault rests on these words.
+-- Where a fault of CONDATA stands, and how it is reported.
+-- The promise of `dense` and `sparse` to report the first fault rests on these words.
 use Rattle.std.specs.Prelude.{◌≡◌, ◌⊎◌, ℕ, Bool, List, [], ◌∷◌, Option, Some, None, if◌then◌else◌, get_or}
 use Rattle.nf_table.specs.Grid.{Cells}
 use Rattle.nf_cells.specs.Names.{Name}
@@ -28,14 +28,14 @@ abbrev pub in_row : ℕ → Option PlacedFault → Option RowFault
 in_row n None = None
 in_row n (Some f) = Some (record { row = n; fault = f })
 
--- An answer is the fault that is due, or want of memory.
+-- A result is the fault that is due, or out of memory.
 abbrev pub IsFaultOf : Option PlacedFault → PlacedFault → Type 0
 IsFaultOf due f = (f.kind ≡ kind.NoMemory) ⊎ (due ≡ Some f)
 
 abbrev pub IsRowFaultOf : Option RowFault → RowFault → Type 0
 IsRowFaultOf due f = (f.fault.kind ≡ kind.NoMemory) ⊎ (due ≡ Some f)
 
--- How a column is told: by its cell in the header as it stands, or else by the role's first reserved name.
+-- How a column is reported: by its cell in the header as it stands, or else by the role's first reserved name.
 abbrev pub place_text : RoleColumns → Cells → Place → Name
 place_text roles header (OfRole r) = column_text roles header r
 place_text roles header (Column c) = get_or header c []

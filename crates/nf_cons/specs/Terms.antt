@@ -1,20 +1,21 @@
 -- The values that rows of CONDATA give variables: coefficients of constraints, and costs and bounds of nonarc variables.
 -- The entries and columns of the constrained problem, and the faults of values, rest on these words.
-use Rattle.std.specs.Prelude.{◌++◌, ◌&&◌, ℕ, Bool, true, false, not, List, [], ◌∷◌, Option, if◌then◌else◌, nat_eq, map}
+use Rattle.std.specs.Prelude.{◌++◌, ◌&&◌, ℕ, Bool, not, List, [], ◌∷◌, Option, if◌then◌else◌, nat_eq, map}
 use Rattle.std.specs.List.{flat_map}
 use Rattle.std.specs.Map.{lookup}
 use Rattle.std.specs.Option.{is_some}
 use Rattle.nf_frac.specs.declared.amount.Amount.{Amount}
-use Rattle.nf_cells.specs.declared.values.Bound.{Bound}
-use Rattle.nf_cells.specs.declared.values.Bound.TheVariants.{Finite, Infinite}
 use Rattle.nf_roles.specs.declared.fault.DataKind.TheVariants as kind
 use Rattle.nf_cons.specs.declared.places.PlacedFault.{PlacedFault}
 use Rattle.nf_cons.specs.declared.taken.Coefficient.{Coefficient}
 use Rattle.nf_cons.specs.declared.taken.Term.{Term}
-use Rattle.nf_cons.specs.declared.types.RowType.{RowType}
-use Rattle.nf_cons.specs.declared.types.RowType.TheVariants.{Le, Ge, Eq, Cost, Lower, Upper}
+use Rattle.nf_cons.specs.declared.row_type.RowType.{RowType}
+use Rattle.nf_cons.specs.declared.row_type.RowType.TheVariants.{Le, Ge, Eq, Cost, Lower, Upper}
+use Rattle.nf_cons.specs.declared.value.Value.{Value}
+use Rattle.nf_cons.specs.declared.value.Value.TheVariants.{Finite, NoUpper, NoLower}
 use Rattle.nf_cons.specs.Places.{fault_if}
 use Rattle.nf_cons.specs.Types.{is_side, same_type}
+use Rattle.nf_cons.specs.Values.{may_be}
 
 -- A row of this type gives a variable a value. A constraint that is a row of the problem has a number, from 0.
 pub record Given : Type 0 where
@@ -25,7 +26,7 @@ pub record Given : Type 0 where
 
 -- A gift is a variable, what it is given, and the row that gives it.
 abbrev pub Gift : Type 0
-Gift = ℕ × (Bound × ℕ)
+Gift = ℕ × (Value × ℕ)
 
 -- The coefficients of constraints, and what rows of each type of data give.
 pub record TermLists : Type 0 where
@@ -34,10 +35,11 @@ pub record TermLists : Type 0 where
   pub lowers : List Gift
   pub uppers : List Gift
 
--- A bound as an amount: no bound has none.
-abbrev pub amount_in : Bound → List Amount
+-- The amount that a value is, if it is one.
+abbrev pub amount_in : Value → List Amount
 amount_in (Finite a) = a ∷ []
-amount_in Infinite = []
+amount_in NoUpper = []
+amount_in NoLower = []
 
 -- The coefficient that is given, if it is one of a constraint.
 abbrev pub coefficient_of : Given → List Coefficient
@@ -69,17 +71,12 @@ gifts_for Lower ls = ls.lowers
 gifts_for Upper ls = ls.uppers
 
 -- What a variable is given, with the row, if it is given anything.
-abbrev pub gift_to : ℕ → List Gift → Option (Bound × ℕ)
+abbrev pub gift_to : ℕ → List Gift → Option (Value × ℕ)
 gift_to v gs = lookup (nat_eq v) gs
 
 -- A variable is given something.
 abbrev pub is_given : ℕ → List Gift → Bool
 is_given v gs = is_some (gift_to v gs)
-
--- INF is no amount.
-abbrev pub is_infinite : Bound → Bool
-is_infinite (Finite a) = false
-is_infinite Infinite = true
 
 -- What was given, with a coefficient of a constraint.
 abbrev pub with_coefficient : TermLists → Term → ℕ → TermLists
@@ -103,21 +100,18 @@ with_given ls g = with_gift g.row_type (g.term.variable, (g.term.value, g.row)) 
 abbrev pub no_lists : TermLists
 no_lists = record { coefficients = []; costs = []; lowers = []; uppers = [] }
 
--- The faults of a cost or bound, where these were given before; and where INF is none.
+-- The faults of a cost or bound, where these were given before.
 abbrev pub gift_faults : Term → List Gift → List (Option PlacedFault)
 gift_faults term before =
     fault_if term.is_arc term.named_at kind.ArcHere
     ∷ fault_if (is_given term.variable before) term.named_at kind.RepeatedCoefficient
     ∷ []
 
-abbrev pub amount_faults : Term → List Gift → List (Option PlacedFault)
-amount_faults term before = fault_if (is_infinite term.value) term.given_at kind.Amount ∷ gift_faults term before
-
--- The faults of a value that a row of this type gives a variable, where so much was given before: INF is an upper bound
--- alone, costs and bounds are those of nonarc variables, and each is given once.
+-- The faults of a value that a row of this type gives a variable, where so much was given before: the row may give it, costs
+-- and bounds are those of nonarc variables, and each is given once.
 abbrev pub term_faults : RowType → Term → TermLists → List (Option PlacedFault)
 term_faults t term before =
-    fault_if (is_infinite term.value && not (same_type t Upper)) term.given_at kind.Amount
+    fault_if (not (may_be t term.value)) term.given_at kind.Amount
     ∷ fault_if (not (is_side t) && term.is_arc) term.named_at kind.ArcHere
     ∷ fault_if (is_given term.variable (gifts_for t before)) term.named_at kind.RepeatedCoefficient
     ∷ []

@@ -10,8 +10,8 @@ use Rattle.nf_model.specs.declared.RowKind.{RowKind}
 use Rattle.nf_model.specs.declared.RowKind.TheVariants as side
 use Rattle.nf_program.specs.declared.program.ConType.{ConType}
 use Rattle.nf_program.specs.declared.program.ConType.TheVariants as option
-use Rattle.nf_cons.specs.declared.types.RowType.{RowType}
-use Rattle.nf_cons.specs.declared.types.RowType.TheVariants.{Le, Ge, Eq, Cost, Lower, Upper}
+use Rattle.nf_cons.specs.declared.row_type.RowType.{RowType}
+use Rattle.nf_cons.specs.declared.row_type.RowType.TheVariants.{Le, Ge, Eq, Cost, Lower, Upper}
 
 -- The types, in the order of the kinds of their words.
 abbrev pub row_types : List RowType

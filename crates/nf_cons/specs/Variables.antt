@@ -37,7 +37,7 @@ names_in ms = map (λ m. m.variable) ms
 abbrev pub nonarcs : List Name → List Mention → List Name
 nonarcs arcs ms = first_seen (filter (λ n. not (is_arc arcs n)) (names_in ms))
 
--- The variables are numbered from 0: the arcs, and behind them the nonarc variables.
+-- The variables are numbered from 0: the arcs, and after them the nonarc variables.
 abbrev pub number_in : List Name → List Mention → Name → ℕ
 number_in arcs ms n = place_of n (arcs ++ nonarcs arcs ms)
 

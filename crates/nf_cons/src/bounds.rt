@@ -1,8 +1,7 @@
 //! The bounds of nonarc variables.
 ghost use Rattle.std.specs.Prelude.{◌≡◌, None, Some, MatchResult};
-ghost use Rattle.nf_network.specs.Faults.{are_crossed};
 ghost use Rattle.nf_network.specs.Network.{bound_or_infinite};
-ghost use Rattle.nf_cons.specs.Bounds.{crossed_at, defaults_of, first_bound_fault};
+ghost use Rattle.nf_cons.specs.Bounds.{bounds_cross, crossed_at, defaults_of, first_bound_fault};
 ghost use Rattle.nf_cons.specs.Naming.{IsSound};
 
 use crate::constraints::Constraints;
@@ -11,8 +10,8 @@ use crate::places::{Home, RowFault};
 use crate::taken::Figures;
 use nf_cells::Bound;
 use nf_frac::Amount;
+use nf_program::{Bound as OptionBound, ProcOptions};
 use nf_roles::DataKind;
-use nf_stmt::{Bound as OptionBound, ProcOptions};
 
 /// What a nonarc variable has where no row gives it: DEFCOST or 0, DEFMINFLOW or 0, DEFCAPACITY or no bound.
 pub fn defaults_of(options: &ProcOptions) -> Figures
@@ -21,7 +20,7 @@ pub fn defaults_of(options: &ProcOptions) -> Figures
     let zero = Amount { thousandths: 0 };
     Figures {
         cost: options.defcost.unwrap_or(zero),
-        lower: options.defminflow.unwrap_or(zero),
+        lower: Some(options.defminflow.unwrap_or(zero)),
         upper: bound_or_infinite(options.defcapacity),
     }
 }
@@ -35,17 +34,17 @@ fn bound_or_infinite(bound: Option<OptionBound>) -> Bound
     }
 }
 
-// Whether the upper bound is less than the lower bound.
-fn are_crossed(figures: Figures) -> bool
-    ensures { result ≡ are_crossed figures.lower figures.upper }
+// Whether both bounds are there, and the upper bound is less than the lower bound.
+fn bounds_cross(figures: Figures) -> bool
+    ensures { result ≡ bounds_cross figures.lower figures.upper }
 {
-    match figures.upper {
-        Bound::Finite(upper) => upper.thousandths < figures.lower.thousandths,
-        Bound::Infinite => false,
+    match (figures.lower, figures.upper) {
+        (Some(lower), Bound::Finite(upper)) => upper.thousandths < lower.thousandths,
+        (None, _) | (_, Bound::Infinite) => false,
     }
 }
 
-// Where crossed bounds are told: in the last row that gave one, or else where the variable first stands.
+// Where crossed bounds are reported: in the last row that gave one, or else where the variable first stands.
 fn crossed_at(home: Home, bound_row: Option<u32>) -> RowFault
     ensures { result ≡ crossed_at home bound_row }
 {
@@ -65,7 +64,7 @@ pub fn check_bounds(constraints: &Constraints, defaults: Figures) -> Result<(), 
 {
     for k in 0..constraints.variables.nonarcs() {
         let variable = constraints.variables.arcs() + k;
-        if are_crossed(constraints.terms.figures(variable, defaults)) {
+        if bounds_cross(constraints.terms.figures(variable, defaults)) {
             let home = constraints.variables.home(k);
             return Err(crossed_at(home, constraints.terms.bound_row(variable)));
         }

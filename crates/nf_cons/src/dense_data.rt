@@ -1,6 +1,7 @@
 //! Dense CONDATA: a row for each constraint, a column for each variable.
 ghost use Rattle.std.specs.Prelude.{◌≡◌, ◌⊎◌, ◌≤◌, None, Ok, Err, IfOk, MatchResult, length, map};
 ghost use Rattle.nf_labels.specs.Labels.{AreLabelsOf, AreNumbered};
+ghost use Rattle.nf_roles.specs.Faults.{out_of_memory};
 ghost use Rattle.nf_roles.specs.Roles.{HasColumnsBelow};
 ghost use Rattle.nf_cons.specs.Dense.{Dense, dense_row, first_row_fault, givens, names, sides};
 ghost use Rattle.nf_cons.specs.Due.{IsNetworkOf, dense_constraints, dense_due, dense_fault};
@@ -22,23 +23,23 @@ use crate::terms::Terms;
 use nf_cells::Names;
 use nf_labels::Labels;
 use nf_prob::ProblemBuilder;
-use nf_roles::{DataFault, DataKind, Roles};
-use nf_stmt::{ProcOptions, SetName};
+use nf_program::ProcOptions;
+use nf_roles::{DataFault, Roles};
 use nf_table::Table;
 use std::alloc::Global;
 
-/// Adds the constraints of dense CONDATA to the network of ARCDATA and NODEDATA, or tells the first fault of CONDATA.
+/// Adds the constraints of dense CONDATA to the network of ARCDATA and NODEDATA, or reports the first fault of CONDATA.
 ///
 /// There is a row for each constraint, in the order of the table, and a column for each nonarc variable, from the left,
-/// behind all arcs. The variables are the columns of VAR, or those without a role; one with the name of an arc is this arc.
+/// after all arcs. The variables are the columns of VAR, or those without a role; one with the name of an arc is this arc.
 /// A missing cell is no coefficient. A row of type COST, LOWERBD or UPPERBD is no row of the problem: its cells are the
-/// costs or bounds of nonarc variables. What is not given has its default: DEFCOST, DEFMINFLOW, DEFCAPACITY, DEFCONTYPE, and
-/// 0 for right sides. MAXIMIZE negates the costs. A row without a name is `_OBSn_`, where n is its number.
+/// costs or bounds of nonarc variables, where INF is no upper bound and `-INF` no lower bound. What is not given has its
+/// default: DEFCOST, DEFMINFLOW, DEFCAPACITY, DEFCONTYPE, and 0 for right sides. MAXIMIZE negates the costs. A row without
+/// a name is `_OBSn_`, where n is its number.
 ///
-/// Builder and labels are those that one call of `network` with these options answered, and the roles are those that
-/// `assign` gives for this table as `Dense`. The fault is the first of the header, whose row is 0, then of the rows from 1
-/// on, then of the bounds of nonarc variables; `NoMemory` where there is no memory. After a fault builder and labels are not
-/// used again.
+/// Builder and labels are those that one call of `network` with these options made, and the roles are those that `assign`
+/// gives for this table as `Dense`. The fault is the first of the header, whose row is 0, then of the rows from 1 on, then
+/// of the bounds of nonarc variables; `NoMemory` if out of memory. After a fault builder and labels are not used again.
 pub fn dense(
     alloc: Global,
     builder: &mut ProblemBuilder,
@@ -52,7 +53,7 @@ pub fn dense(
     ensures answer { MatchResult result
         (λ _. dense_due options.now (record { program = builder.old; labels = labels.old }) roles.now table.now
         ≡ Ok (record { program = builder.new; labels = labels.new }))
-        (λ e. (e.kind ≡ DataKind.NoMemory)
+        (λ e. (e ≡ out_of_memory)
         ⊎ (dense_due options.now (record { program = builder.old; labels = labels.old }) roles.now table.now ≡ Err e)) }
     ensures fit { IfOk result (λ _. AreNumbered labels.new builder.new) }
     ensures labelled { IfOk result (λ _. AreLabelsOf labels.old builder.old → AreLabelsOf labels.new builder.new) }
@@ -63,7 +64,7 @@ pub fn dense(
     };
     match add_constraints(builder, labels, &constraints, options) {
         Ok(()) => Ok(()),
-        Err(_) => Err(DataFault::no_memory(alloc, SetName::Condata)),
+        Err(_) => Err(DataFault::no_memory(alloc)),
     }
 }
 

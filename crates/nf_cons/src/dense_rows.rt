@@ -14,13 +14,13 @@ ghost use Rattle.nf_cons.specs.Types.{side_kind};
 use crate::constraints::Constraints;
 use crate::fault::{at, at_role};
 use crate::places::{Place, PlacedFault};
-use crate::row_type::{side_kind, type_cell};
+use crate::row_type::{RowType, side_kind, type_cell};
 use crate::taken::{MOST_COEFFICIENTS, MOST_CONSTRAINTS, SideRow, Term};
-use crate::types::RowType;
-use nf_cells::{Bound, Cell, amount_cell, bound_cell, name_cell};
+use crate::value::{Value, value_cell};
+use nf_cells::{Cell, amount_cell, name_cell};
 use nf_frac::Amount;
+use nf_program::Role;
 use nf_roles::{DataKind, Roles};
-use nf_stmt::Role;
 use nf_table::Table;
 use std::alloc::{AllocError, Global};
 use std::marker::Model;
@@ -213,7 +213,7 @@ impl DenseRows {
     {
         for i in 0..self.numbers.len() {
             let column = roles.variables()[i];
-            let cell = bound_cell(table.cell(k + 1, column));
+            let cell = value_cell(table.cell(k + 1, column));
             match self.take_cell(i, column, cell, row_type, k + 1) {
                 Ok(()) => {}
                 Err(fault) => return Err(fault),
@@ -227,7 +227,7 @@ impl DenseRows {
         &mut self,
         i: usize,
         column: u32,
-        cell: Cell<Bound>,
+        cell: Cell<Value>,
         row_type: RowType,
         row: u32,
     ) -> Result<(), PlacedFault>

@@ -1,12 +1,13 @@
-//! How a fault of CONDATA is told.
+//! How a fault of CONDATA is reported.
 ghost use Rattle.std.specs.Prelude.{◌≡◌, ◌⊎◌, [], get_or, length};
+ghost use Rattle.nf_roles.specs.Faults.{out_of_memory};
 ghost use Rattle.nf_roles.specs.Roles.{HasColumnsBelow};
 ghost use Rattle.nf_cons.specs.Places.{place_text, told};
 
 use crate::places::{Place, PlacedFault, RowFault};
 use nf_io::Text;
+use nf_program::{Role, SetName};
 use nf_roles::{DataFault, DataKind, Roles};
-use nf_stmt::{Role, SetName};
 use nf_table::Table;
 use std::alloc::Global;
 
@@ -31,14 +32,14 @@ pub fn in_row(row: u32, fault: PlacedFault) -> RowFault
     RowFault { row, fault }
 }
 
-/// There was no memory.
+/// Out of memory.
 pub fn no_memory() -> RowFault
     ensures { result.fault.kind ≡ DataKind.NoMemory }
 {
     in_row(0, at_role(Role::Row, DataKind::NoMemory))
 }
 
-// How a column is told: by its cell in the header, or else by the role's first reserved name.
+// How a column is reported: by its cell in the header, or else by the role's first reserved name.
 fn place_text<'a>(place: Place, roles: &Roles, table: &'a Table) -> &'a [u8]
     requires { HasColumnsBelow roles.now (length table.now.header) }
     ensures { result.now ≡ place_text roles.now table.now.header place }
@@ -60,11 +61,15 @@ fn header_cell(table: &Table, column: u32) -> &[u8]
     }
 }
 
-/// A fault of CONDATA, by its set, row, column and kind.
+/// A fault of CONDATA, by its set, row, column and kind; out of memory as all data faults say it.
 pub fn told(alloc: Global, roles: &Roles, table: &Table, found: RowFault) -> DataFault
     requires { HasColumnsBelow roles.now (length table.now.header) }
-    ensures { (result.kind ≡ DataKind.NoMemory) ⊎ (result ≡ told roles.now table.now.header found) }
+    ensures answer { (result ≡ out_of_memory) ⊎ (result ≡ told roles.now table.now.header found) }
+    ensures memory { found.fault.kind ≡ DataKind.NoMemory → result ≡ out_of_memory }
 {
+    if found.fault.kind == DataKind::NoMemory {
+        return DataFault::no_memory(alloc);
+    }
     match Text::from_slice(alloc, place_text(found.fault.place, roles, table)) {
         Ok(column) => DataFault {
             set: SetName::Condata,
@@ -72,6 +77,6 @@ pub fn told(alloc: Global, roles: &Roles, table: &Table, found: RowFault) -> Dat
             column,
             kind: found.fault.kind,
         },
-        Err(_) => DataFault::no_memory(alloc, SetName::Condata),
+        Err(_) => DataFault::no_memory(alloc),
     }
 }

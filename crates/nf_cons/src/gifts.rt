@@ -1,22 +1,22 @@
 //! The costs or bounds that rows of one type give nonarc variables.
-ghost use Rattle.std.specs.Prelude.{◌≡◌, ◌++◌, ◌∷◌, [], false, not, IfOk, OnOk};
+ghost use Rattle.std.specs.Prelude.{◌≡◌, ◌++◌, ◌∷◌, [], true, false, not, IfOk, OnOk, OnErr};
 ghost use Rattle.nf_cons.specs.Terms.{gift_to, is_given};
 
+use crate::value::Value;
 use indexmap::IndexMap;
-use nf_cells::Bound;
 use std::alloc::{AllocError, Global};
 use std::marker::Model;
 
 /// What rows of one type give variables, each at most once, with the row.
 #[derive(Drop)]
 pub struct Gifts {
-    map: IndexMap<usize, (Bound, u32)>,
+    map: IndexMap<usize, (Value, u32)>,
 }
 
 impl Model for Gifts {
     ghost use Rattle.std.specs.Prelude.{List};
     ghost use Rattle.nf_cons.specs.Terms.{Gift};
-    ghost use Rattle.nf_cons.specs.TermsInside.{gifts_inside};
+    ghost use Rattle.nf_cons.specs.GiftsInside.{gifts_inside};
 
     ghost Value = { List Gift };
 
@@ -33,7 +33,7 @@ impl Gifts {
     }
 
     /// What a variable is given, and in which row.
-    pub fn get(&self, variable: usize) -> Option<(Bound, u32)>
+    pub fn get(&self, variable: usize) -> Option<(Value, u32)>
         ensures { result ≡ gift_to variable self.now }
     {
         match self.map.get(&variable) {
@@ -42,10 +42,12 @@ impl Gifts {
         }
     }
 
-    /// Gives a variable a value in a row. Answers false, and gives nothing, where it was given one before.
-    pub fn give(&mut self, variable: usize, value: Bound, row: u32) -> Result<bool, AllocError>
+    /// Gives a variable a value in a row. Returns false, and gives nothing, if it was given one before.
+    pub fn give(&mut self, variable: usize, value: Value, row: u32) -> Result<bool, AllocError>
         ensures is_new { IfOk result (λ b. b ≡ not (is_given variable self.old)) }
         ensures added { OnOk result (is_given variable self.old ≡ false → self.new ≡ self.old ++ (variable, (value, row)) ∷ []) }
+        ensures given { OnOk result (is_given variable self.old ≡ true → self.new ≡ self.old) }
+        ensures unchanged { OnErr result (self.new ≡ self.old) }
     {
         if self.get(variable).is_some() {
             return Ok(false);

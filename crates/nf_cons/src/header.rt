@@ -25,7 +25,7 @@ pub(crate) struct Header {
     pub(crate) numbers: Vec<usize>,
 }
 
-/// Reads the variables of a header behind these arcs, or finds its first fault.
+/// Reads the variables of a header after the arcs of these labels, or finds its first fault.
 pub(crate) fn read_header(
     alloc: Global,
     labels: &Labels,

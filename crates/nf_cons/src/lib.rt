@@ -1,4 +1,4 @@
-//! The constraints of CONDATA: side rows and nonarc variables behind a network. Dense CONDATA is read here whole; what sparse
+//! The constraints of CONDATA: side rows and nonarc variables after a network. Dense CONDATA is read here whole; what sparse
 //! CONDATA shares with it is public: the variables by name, what rows give them, bounds, and how all is added.
 #![tactic(auto)]
 
@@ -16,7 +16,7 @@ mod places;
 mod row_type;
 mod taken;
 mod terms;
-mod types;
+mod value;
 mod variables;
 
 pub use arcs::{ArcNames, arc_names};
@@ -28,8 +28,8 @@ pub use found::NamedArc;
 pub use gifts::Gifts;
 pub use making::add_constraints;
 pub use places::{Home, Place, PlacedFault, RowFault};
-pub use row_type::{default_type, is_same_type, side_kind, type_cell};
+pub use row_type::{RowType, default_type, is_same_type, side_kind, type_cell};
 pub use taken::{Coefficient, Figures, MOST_COEFFICIENTS, MOST_CONSTRAINTS, SideRow, Term};
 pub use terms::Terms;
-pub use types::RowType;
+pub use value::{Value, may_be, value_cell};
 pub use variables::Variables;

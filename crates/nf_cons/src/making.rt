@@ -1,14 +1,14 @@
 //! Adds the constraints to the problem and its labels.
-ghost use Rattle.std.specs.Prelude.{true, ◌≡◌, ◌≤◌, ◌<◌, ◌+◌, ◌^◌, ◌++◌, IfOk, OnOk, length, map};
+ghost use Rattle.std.specs.Prelude.{true, ◌≡◌, ◌≤◌, ◌<◌, ◌+◌, ◌^◌, ◌++◌, IfOk, OnOk, length, map, option_map};
 ghost use Rattle.std.specs.List.{All};
 ghost use Rattle.nf_frac.specs.Amounts.{amount_value};
 ghost use Rattle.nf_network.specs.Excess.{joined_below};
 ghost use Rattle.nf_network.specs.Network.{in_sense, upper_of};
 ghost use Rattle.nf_cons.specs.Bounds.{defaults_of as defaults_due};
-ghost use Rattle.nf_cons.specs.Constrained.{column_of, constrained_labels, constrained_program, nonarc_column_at, side_name, side_row, with_coefficients, with_columns, with_rows};
+ghost use Rattle.nf_cons.specs.Constrained.{column_of, constrained_labels, constrained_program, nonarc_column_at, side_name, side_row, with_columns, with_rows};
 ghost use Rattle.nf_cons.specs.Dense.{most_constraints};
 ghost use Rattle.nf_cons.specs.Naming.{IsSound};
-ghost use Rattle.nf_cons.specs.Making.{AreInOrder, AreReady, HasEntriesBelow, IsPlaced, IsPlain, are_apart, before};
+ghost use Rattle.nf_cons.specs.Making.{AreInOrder, AreReady, HasEntriesBelow, IsPlaced, IsPlain, are_apart, before, with_entries_of};
 
 use crate::bounds::defaults_of;
 use crate::constraints::Constraints;
@@ -16,7 +16,7 @@ use nf_cells::Bound;
 use nf_frac::{Amount, Frac};
 use nf_labels::Labels;
 use nf_prob::ProblemBuilder;
-use nf_stmt::ProcOptions;
+use nf_program::ProcOptions;
 use std::alloc::AllocError;
 
 /// Adds the nonarc variables as columns, the constraints as rows, and the coefficients as entries.
@@ -47,7 +47,7 @@ pub fn add_constraints(
     Ok(())
 }
 
-// Adds a column for each nonarc variable. Answers how many columns there were before, or how many arcs if there is none.
+// Adds a column for each nonarc variable. Returns how many columns there were before, or how many arcs if there is none.
 fn add_nonarcs(
     builder: &mut ProblemBuilder,
     constraints: &Constraints,
@@ -67,14 +67,14 @@ fn add_nonarcs(
         let variable = constraints.variables.arcs() + k;
         let figures = constraints.terms.figures(variable, defaults);
         let cost = in_sense(options.maximize, figures.cost);
-        let lower = amount_value(figures.lower);
+        let lower = lower_of(figures.lower);
         let j = builder.add_column(0, 0, cost, lower, upper_of(figures.upper))?;
         before = j - 1 - k as u32;
     }
     Ok(before)
 }
 
-// Adds a row for each constraint. Answers how many rows there were before, or 0 if there is none.
+// Adds a row for each constraint. Returns how many rows there were before, or 0 if there is none.
 fn add_sides(builder: &mut ProblemBuilder, constraints: &Constraints) -> Result<u32, AllocError>
     requires few_sides { length constraints.now.sides.items ≤ most_constraints }
     requires few_rows { length builder.old.rows ≤ 2 ^ 20 }
@@ -109,7 +109,7 @@ fn add_coefficients(
     requires placed { All (IsPlaced (constraints.now.variables.arcs.count + length constraints.now.variables.nonarcs) (length constraints.now.sides.items)) constraints.now.terms.coefficients }
     requires apart { are_apart constraints.now.terms.coefficients ≡ true }
     requires entries { 0 < length constraints.now.sides.items → All (HasEntriesBelow rows) builder.old.columns }
-    ensures { OnOk result (builder.new ≡ with_coefficients constraints.now.variables.arcs.count columns rows builder.old constraints.now.terms.coefficients) }
+    ensures { OnOk result (builder.new ≡ with_entries_of constraints.now.variables.arcs.count columns rows builder.old constraints.now.terms.coefficients) }
 {
     let arcs = constraints.variables.arcs();
     for k in 0..constraints.terms.coefficients().len() {
@@ -121,7 +121,7 @@ fn add_coefficients(
     Ok(())
 }
 
-// The number of the column of a variable: arcs come first, and nonarc variables behind all arcs.
+// The number of the column of a variable: arcs come first, and nonarc variables after all arcs.
 fn column_number(variable: usize, arcs: usize, columns: u32) -> u32
     requires arcs { arcs ≤ columns }
     requires few { columns ≤ 2 ^ 20 }
@@ -174,6 +174,16 @@ fn amount_value(amount: Amount) -> Frac
     ensures { result ≡ amount_value amount }
 {
     Frac::from_thousandths(i128::from(amount.thousandths))
+}
+
+// The lower bound of a variable, if it has one.
+fn lower_of(lower: Option<Amount>) -> Option<Frac>
+    ensures { result ≡ option_map amount_value lower }
+{
+    match lower {
+        Some(amount) => Some(amount_value(amount)),
+        None => None,
+    }
 }
 
 // The upper bound that a bound is.

@@ -1,6 +1,6 @@
 //! Where a fault of CONDATA stands.
+use nf_program::Role;
 use nf_roles::DataKind;
-use nf_stmt::Role;
 
 /// A column of CONDATA: that of a role, or that of a number from 0.
 #[derive(Clone, Copy, Debug)]

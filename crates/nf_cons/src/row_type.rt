@@ -1,12 +1,28 @@
-//! What a cell says of the type of a row.
+//! The types of the rows of CONDATA, and what a cell says of them.
 ghost use Rattle.std.specs.Prelude.{◌≡◌, slice_get};
 ghost use Rattle.nf_cons.specs.Types.{default_type, row_types, same_type, side_kind, type_in, type_number, type_of};
 
-use crate::types::RowType;
 use nf_cells::{Cell, is_missing, trimmed};
 use nf_prob::RowKind;
-use nf_stmt::ConType;
+use nf_program::ConType;
 use nf_words::type_words;
+
+/// The type of a row of CONDATA: of a constraint, or of a row that holds costs or bounds of nonarc variables.
+#[derive(Clone, Copy, Debug, PartialEq, Eq)]
+pub enum RowType {
+    /// At most the right side.
+    Le,
+    /// At least the right side.
+    Ge,
+    /// The right side.
+    Eq,
+    /// Costs.
+    Cost,
+    /// Lower bounds.
+    Lower,
+    /// Upper bounds.
+    Upper,
+}
 
 // The types, in the order of the kinds of their words.
 const TYPES: [RowType; 6] = [

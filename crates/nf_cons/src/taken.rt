@@ -1,5 +1,6 @@
 //! What is read of CONDATA.
 use crate::places::Place;
+use crate::value::Value;
 use nf_cells::Bound;
 use nf_frac::Amount;
 use nf_prob::RowKind;
@@ -31,15 +32,15 @@ pub struct SideRow {
 pub struct Term {
     pub variable: usize,
     pub is_arc: bool,
-    pub value: Bound,
+    pub value: Value,
     pub named_at: Place,
     pub given_at: Place,
 }
 
-/// The cost and the bounds of a nonarc variable.
+/// The cost of a nonarc variable, and its bounds, where there are such.
 #[derive(Clone, Copy, Debug)]
 pub struct Figures {
     pub cost: Amount,
-    pub lower: Amount,
+    pub lower: Option<Amount>,
     pub upper: Bound,
 }

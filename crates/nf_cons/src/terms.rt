@@ -1,14 +1,15 @@
 //! The values that rows give variables: coefficients of constraints, or costs and bounds.
-ghost use Rattle.std.specs.Prelude.{◌≡◌, ◌++◌, ◌∷◌, [], None, false, MatchResult};
-ghost use Rattle.nf_cons.specs.Bounds.{amount_or, bound_or, bound_row, figures_of, later_row};
-ghost use Rattle.nf_cons.specs.Places.{IsFaultOf, fault_if, first_of};
-ghost use Rattle.nf_cons.specs.Terms.{amount_faults, gift_faults, is_infinite, no_lists, term_faults, with_coefficient, with_given};
+ghost use Rattle.std.specs.Prelude.{◌≡◌, ◌++◌, ◌∷◌, [], None, MatchResult, OnErr};
+ghost use Rattle.nf_cons.specs.Bounds.{bound_row, cost_or, figures_of, later_row, lower_or, upper_or};
+ghost use Rattle.nf_cons.specs.Places.{IsFaultOf, first_of};
+ghost use Rattle.nf_cons.specs.Terms.{gift_faults, no_lists, term_faults, with_coefficient, with_given};
 
 use crate::fault::at;
 use crate::gifts::Gifts;
 use crate::places::PlacedFault;
+use crate::row_type::RowType;
 use crate::taken::{Coefficient, Figures, Term};
-use crate::types::RowType;
+use crate::value::Value;
 use nf_cells::Bound;
 use nf_frac::Amount;
 use nf_roles::DataKind;
@@ -26,9 +27,10 @@ pub struct Terms {
 
 // Gives a nonarc variable a cost or a bound.
 fn give(gifts: &mut Gifts, term: Term, row: u32) -> Result<(), PlacedFault>
-    ensures { MatchResult result
+    ensures answer { MatchResult result
         (λ _. (first_of (gift_faults term gifts.old) ≡ None) × (gifts.new ≡ gifts.old ++ (term.variable, (term.value, row)) ∷ []))
         (IsFaultOf (first_of (gift_faults term gifts.old))) }
+    ensures unchanged { OnErr result (gifts.new ≡ gifts.old) }
 {
     if term.is_arc {
         return Err(at(term.named_at, DataKind::ArcHere));
@@ -40,40 +42,40 @@ fn give(gifts: &mut Gifts, term: Term, row: u32) -> Result<(), PlacedFault>
     }
 }
 
-// Gives a nonarc variable a cost or a bound that is an amount.
-fn give_amount(gifts: &mut Gifts, term: Term, row: u32) -> Result<(), PlacedFault>
-    ensures { MatchResult result
-        (λ _. (first_of (amount_faults term gifts.old) ≡ None) × (gifts.new ≡ gifts.old ++ (term.variable, (term.value, row)) ∷ []))
-        (IsFaultOf (first_of (amount_faults term gifts.old))) }
+// The cost of a gift, or a default.
+fn cost_or(gift: Option<(Value, u32)>, default: Amount) -> Amount
+    ensures { result ≡ cost_or default gift }
 {
-    match term.value {
-        Bound::Finite(_) => give(gifts, term, row),
-        Bound::Infinite => Err(at(term.given_at, DataKind::Amount)),
+    match gift {
+        Some((Value::Finite(amount), _)) => amount,
+        Some((Value::NoUpper | Value::NoLower, _)) | None => default,
     }
 }
 
-// The amount of a gift, or a default.
-fn amount_or(gift: Option<(Bound, u32)>, default: Amount) -> Amount
-    ensures { result ≡ amount_or default gift }
+// The lower bound of a gift, which may be none, or a default.
+fn lower_or(gift: Option<(Value, u32)>, default: Option<Amount>) -> Option<Amount>
+    ensures { result ≡ lower_or default gift }
 {
     match gift {
-        Some((Bound::Finite(amount), _)) => amount,
-        Some((Bound::Infinite, _)) | None => default,
+        Some((Value::Finite(amount), _)) => Some(amount),
+        Some((Value::NoLower, _)) => None,
+        Some((Value::NoUpper, _)) | None => default,
     }
 }
 
-// The bound of a gift, or a default.
-fn bound_or(gift: Option<(Bound, u32)>, default: Bound) -> Bound
-    ensures { result ≡ bound_or default gift }
+// The upper bound of a gift, which may be none, or a default.
+fn upper_or(gift: Option<(Value, u32)>, default: Bound) -> Bound
+    ensures { result ≡ upper_or default gift }
 {
     match gift {
-        Some((bound, _)) => bound,
-        None => default,
+        Some((Value::Finite(amount), _)) => Bound::Finite(amount),
+        Some((Value::NoUpper, _)) => Bound::Infinite,
+        Some((Value::NoLower, _)) | None => default,
     }
 }
 
 // The later of the rows of two gifts.
-fn later_row(lower: Option<(Bound, u32)>, upper: Option<(Bound, u32)>) -> Option<u32>
+fn later_row(lower: Option<(Value, u32)>, upper: Option<(Value, u32)>) -> Option<u32>
     ensures { result ≡ later_row lower upper }
 {
     match (lower, upper) {
@@ -104,15 +106,11 @@ impl Terms {
     }
 
     // Adds a coefficient of a constraint.
-    fn add(&mut self, term: Term, constraint: usize) -> Result<(), PlacedFault>
-        ensures { MatchResult result
-            (λ _. (is_infinite term.value ≡ false) × (self.new ≡ with_coefficient self.old term constraint))
-            (IsFaultOf (fault_if (is_infinite term.value) term.given_at DataKind.Amount)) }
+    fn add(&mut self, term: Term, value: Amount, constraint: usize) -> Result<(), PlacedFault>
+        requires value { term.value ≡ Value.Finite value }
+        ensures answer { MatchResult result (λ _. self.new ≡ with_coefficient self.old term constraint) (λ f. f.kind ≡ DataKind.NoMemory) }
+        ensures unchanged { OnErr result (self.new ≡ self.old) }
     {
-        let value = match term.value {
-            Bound::Finite(amount) => amount,
-            Bound::Infinite => return Err(at(term.given_at, DataKind::Amount)),
-        };
         let coefficient = Coefficient {
             variable: term.variable,
             constraint,
@@ -125,7 +123,7 @@ impl Terms {
     }
 
     /// Takes the value that a row of this type gives a variable. A row of a constraint has the constraint's number; rows
-    /// count from 1.
+    /// count from 1. After a fault nothing has changed.
     pub fn take(
         &mut self,
         row_type: RowType,
@@ -133,16 +131,24 @@ impl Terms {
         constraint: usize,
         row: u32,
     ) -> Result<(), PlacedFault>
-        ensures { MatchResult result
+        ensures answer { MatchResult result
             (λ _. (first_of (term_faults row_type term self.old) ≡ None)
             × (self.new ≡ with_given self.old (record { row_type = row_type; term = term; constraint = constraint; row = row })))
             (IsFaultOf (first_of (term_faults row_type term self.old))) }
+        ensures unchanged { OnErr result (self.new ≡ self.old) }
     {
-        match row_type {
-            RowType::Le | RowType::Ge | RowType::Eq => self.add(term, constraint),
-            RowType::Cost => give_amount(&mut self.costs, term, row),
-            RowType::Lower => give_amount(&mut self.lowers, term, row),
-            RowType::Upper => give(&mut self.uppers, term, row),
+        match (row_type, term.value) {
+            (RowType::Le | RowType::Ge | RowType::Eq, Value::Finite(value)) => {
+                self.add(term, value, constraint)
+            }
+            (RowType::Cost, Value::Finite(_)) => give(&mut self.costs, term, row),
+            (RowType::Lower, Value::Finite(_) | Value::NoLower) => {
+                give(&mut self.lowers, term, row)
+            }
+            (RowType::Upper, Value::Finite(_) | Value::NoUpper) => {
+                give(&mut self.uppers, term, row)
+            }
+            (_, Value::NoUpper | Value::NoLower) => Err(at(term.given_at, DataKind::Amount)),
         }
     }
 
@@ -158,9 +164,9 @@ impl Terms {
         ensures { result ≡ figures_of defaults self.now variable }
     {
         Figures {
-            cost: amount_or(self.costs.get(variable), defaults.cost),
-            lower: amount_or(self.lowers.get(variable), defaults.lower),
-            upper: bound_or(self.uppers.get(variable), defaults.upper),
+            cost: cost_or(self.costs.get(variable), defaults.cost),
+            lower: lower_or(self.lowers.get(variable), defaults.lower),
+            upper: upper_or(self.uppers.get(variable), defaults.upper),
         }
     }
 

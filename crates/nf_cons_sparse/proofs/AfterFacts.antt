@@ -12,7 +12,7 @@ use Rattle.nf_roles.specs.First.{first_below, or_else}
 use Rattle.nf_network.specs.Excess.{joined_below}
 use Rattle.nf_network.proofs.Lists.{joined-more}
 use Rattle.nf_network.proofs.PassFacts.{map-length, place-added}
-use Rattle.nf_cons.specs.declared.types.RowType.{RowType}
+use Rattle.nf_cons.specs.declared.row_type.RowType.{RowType}
 use Rattle.nf_cons.specs.Naming.{VariableList, number_now}
 use Rattle.nf_cons.specs.Passing.{AreNamed}
 use Rattle.nf_cons.specs.Variables.{nonarcs, number_in}

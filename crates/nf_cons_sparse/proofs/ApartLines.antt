@@ -7,11 +7,11 @@ use Rattle.std.proofs.lemmas.List.Folds.{list_any-append}
 use Rattle.std.specs.List.{All}
 use Rattle.nf_frac.specs.declared.amount.Amount.{Amount}
 use Rattle.nf_cells.specs.Names.{has_name}
-use Rattle.nf_cells.specs.declared.values.Bound.{Bound}
-use Rattle.nf_cells.specs.declared.values.Bound.TheVariants.{Finite, Infinite}
 use Rattle.nf_cells.proofs.SeenFacts.{at-place, place-less}
 use Rattle.nf_network.specs.Arcs.{said}
 use Rattle.nf_network.proofs.Lists.{joined-more, joined-none}
+use Rattle.nf_cons.specs.declared.value.Value.{Value}
+use Rattle.nf_cons.specs.declared.value.Value.TheVariants.{Finite, NoUpper, NoLower}
 use Rattle.nf_cons.specs.declared.taken.Coefficient.{Coefficient}
 use Rattle.nf_cons.specs.Making.{are_apart, same_place}
 use Rattle.nf_cons.specs.Types.{is_side}
@@ -30,28 +30,30 @@ line-all : (s : Sparse) (k : ℕ) (P : Coefficient → Type 0)
 unfolding given_at
 line-all s k P h = by_cases (cases_Bool (has_coefficient (line_at s k)))
   where
-    by_type : has_coefficient (line_at s k) ≡ true → (b : Bool) → is_side (type_at s k) ≡ b → (x : Bound)
+    by_type : has_coefficient (line_at s k) ≡ true → (b : Bool) → is_side (type_at s k) ≡ b → (x : Value)
         → All P (coefs (record { row_type = type_at s k; term = line_term (length s.arcs) (variable_number s k) x; constraint = constraint_at s k; row = k + 1 } ∷ []))
     by_type g false e x = rw e (All-nil P)
     by_type g true e (Finite a) = rw e (All-cons P (record { variable = variable_number s k; constraint = constraint_at s k; value = a }) [] (h g e a) (All-nil P))
-    by_type g true e Infinite = rw e (All-nil P)
+    by_type g true e NoUpper = rw e (All-nil P)
+    by_type g true e NoLower = rw e (All-nil P)
 
     by_cases : (has_coefficient (line_at s k) ≡ true) ⊎ (has_coefficient (line_at s k) ≡ false) → All P (coefs (given_at s k))
-    by_cases (inl g) = rw g (by_type g (is_side (type_at s k)) refl (said Infinite (line_at s k).coef))
+    by_cases (inl g) = rw g (by_type g (is_side (type_at s k)) refl (said NoUpper (line_at s k).coef))
     by_cases (inr g) = rw g (All-nil P)
 
 line-apart : (s : Sparse) (k : ℕ) → are_apart (coefs (given_at s k)) ≡ true
 unfolding given_at are_apart
 line-apart s k = by_cases (cases_Bool (has_coefficient (line_at s k)))
   where
-    by_type : (b : Bool) → is_side (type_at s k) ≡ b → (x : Bound)
+    by_type : (b : Bool) → is_side (type_at s k) ≡ b → (x : Value)
         → are_apart (coefs (record { row_type = type_at s k; term = line_term (length s.arcs) (variable_number s k) x; constraint = constraint_at s k; row = k + 1 } ∷ [])) ≡ true
     by_type false e x = rw e refl
     by_type true e (Finite a) = rw e refl
-    by_type true e Infinite = rw e refl
+    by_type true e NoUpper = rw e refl
+    by_type true e NoLower = rw e refl
 
     by_cases : (has_coefficient (line_at s k) ≡ true) ⊎ (has_coefficient (line_at s k) ≡ false) → are_apart (coefs (given_at s k)) ≡ true
-    by_cases (inl g) = rw g (by_type (is_side (type_at s k)) refl (said Infinite (line_at s k).coef))
+    by_cases (inl g) = rw g (by_type (is_side (type_at s k)) refl (said NoUpper (line_at s k).coef))
     by_cases (inr g) = rw g refl
 
 -- The constraint of a line that is a row of the problem: its number is that of a row with the constraint's name.

@@ -2,14 +2,14 @@
 use Rattle.std.proofs.Common.{◌≡◌, ◌++◌, ◌∷◌, ◌∙◌, ◌&&◌, ℕ, zero, suc, Bool, true, false, not, List, [], Option, Some, None, if◌then◌else◌, get_or, slice_set, refl, sym, ap, subst}
 use Rattle.nf_frac.specs.declared.amount.Amount.{Amount}
 use Rattle.nf_cells.specs.Names.{Name}
-use Rattle.nf_cells.specs.declared.values.Bound.{Bound}
 use Rattle.nf_cells.specs.declared.values.Cell.{Cell}
 use Rattle.nf_cells.specs.declared.values.Cell.TheVariants.{Missing, Bad, Is}
 use Rattle.nf_program.specs.declared.program.Role.TheVariants as role
 use Rattle.nf_roles.specs.First.{or_else}
 use Rattle.nf_network.specs.Faults.{is_bad, is_said}
+use Rattle.nf_cons.specs.declared.value.Value.{Value}
 use Rattle.nf_cons.specs.declared.places.PlacedFault.{PlacedFault}
-use Rattle.nf_cons.specs.declared.types.RowType.{RowType}
+use Rattle.nf_cons.specs.declared.row_type.RowType.{RowType}
 use Rattle.nf_cons.specs.Naming.{VariableList, faults_now, number_now, with_mention}
 use Rattle.nf_cons.specs.Places.{IsFaultOf, first_of}
 use Rattle.nf_cons.proofs.FaultFacts.{both, first-append, left, right}
@@ -50,7 +50,7 @@ taken-same s i l h =
     ∙ ap (λ b. record { row = i; variable = if has_variable l then Some (number_now s.variables (variable_of l)) else None; coef = value_if (if b then Missing else l.coef) }) (sym h)
 
 -- The faults of the pair are those of COEF, which is not bad.
-pairs-same : (s : LineState) (before : Option Amount) (i : ℕ) (r : Cell Name) (t : Cell RowType) (column : Cell Name) (coef : Cell Bound) (g : Cell Amount)
+pairs-same : (s : LineState) (before : Option Amount) (i : ℕ) (r : Cell Name) (t : Cell RowType) (column : Cell Name) (coef : Cell Value) (g : Cell Amount)
     → is_right (record { row = r; row_type = t; column = column; coef = coef; right = g }) ≡ false → is_bad coef ≡ false
     → first_of (right_faults role.Coef before (coef_right (record { row = r; row_type = t; column = column; coef = coef; right = g }))
     ++ coef_faults s.pairs (i, number_now s.variables (variable_of (record { row = r; row_type = t; column = column; coef = coef; right = g }))) (record { row = r; row_type = t; column = column; coef = coef; right = g }))
@@ -108,7 +108,7 @@ righted-none gs i =
     ap (λ r. slice_set gs i (record { row_type = (get_or gs i no_given).row_type; right = r })) (or-none (get_or gs i no_given).right) ∙ same-set gs i no_given
 
 -- The pairs with a line.
-pairs-left : (s : LineState) (i : ℕ) (r : Cell Name) (t : Cell RowType) (column : Cell Name) (coef : Cell Bound) (g : Cell Amount)
+pairs-left : (s : LineState) (i : ℕ) (r : Cell Name) (t : Cell RowType) (column : Cell Name) (coef : Cell Value) (g : Cell Amount)
     → is_right (record { row = r; row_type = t; column = column; coef = coef; right = g }) ≡ false
     → (if gives_pair (record { row = i; variable = cell_number s.variables column; coef = value_if coef }) then s.pairs ++ pair_of (record { row = i; variable = cell_number s.variables column; coef = value_if coef }) ∷ [] else s.pairs)
     ≡ (if has_coefficient (record { row = r; row_type = t; column = column; coef = coef; right = g })

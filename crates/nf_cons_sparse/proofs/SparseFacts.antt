@@ -5,6 +5,7 @@ use Rattle.nf_cells.specs.Names.{Name}
 use Rattle.nf_program.specs.declared.program.ProcOptions.{ProcOptions}
 use Rattle.nf_roles.specs.declared.fault.DataFault.{DataFault}
 use Rattle.nf_roles.specs.declared.fault.DataKind.TheVariants as kind
+use Rattle.nf_roles.specs.Faults.{out_of_memory}
 use Rattle.nf_roles.specs.Roles.{RoleColumns}
 use Rattle.nf_network.specs.Network.{Network}
 use Rattle.nf_network.proofs.PassFacts.{map-length}
@@ -23,11 +24,11 @@ use Rattle.nf_cons_sparse.specs.Sparse.{first_line_fault, first_typed_fault, men
 use Rattle.nf_cons_sparse.specs.SparseDue.{sparse_constraints, sparse_due, sparse_fault, sparse_of}
 
 pub sparse-told : (o : ProcOptions) (n : Network) (roles : RoleColumns) (table : Grid) (f : RowFault) (e : DataFault) → IsRowFaultOf (sparse_fault o (arcs_of n.labels) roles table) f
-    → (e.kind ≡ kind.NoMemory) ⊎ (e ≡ told roles table.header f) → (e.kind ≡ kind.NoMemory) ⊎ (sparse_due o n roles table ≡ Err e)
+    → (e ≡ out_of_memory) ⊎ (e ≡ told roles table.header f) → (f.fault.kind ≡ kind.NoMemory → e ≡ out_of_memory) → (e ≡ out_of_memory) ⊎ (sparse_due o n roles table ≡ Err e)
 unfolding sparse_due
-sparse-told o n roles table f e h (inl m) = inl m
-sparse-told o n roles table f e (inl m) (inr t) = inl (ap (λ q. q.kind) t ∙ m)
-sparse-told o n roles table f e (inr q) (inr t) = inr (rw (q, t) refl)
+sparse-told o n roles table f e h (inl m) memory = inl m
+sparse-told o n roles table f e (inl m) (inr t) memory = inl (memory m)
+sparse-told o n roles table f e (inr q) (inr t) memory = inr (rw (q, t) refl)
 
 -- Without a fault of bounds, no bounds cross.
 pub sparse-ordered : (o : ProcOptions) (arcs : List Name) (roles : RoleColumns) (table : Grid) → sparse_fault o arcs roles table ≡ None

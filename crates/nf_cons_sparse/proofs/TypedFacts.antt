@@ -4,10 +4,8 @@ use Rattle.std.proofs.lemmas.Bool.{cases_Bool, cases_lt}
 use Rattle.std.proofs.lemmas.List.{append-nil, get_or-map, length-append}
 use Rattle.std.specs.Bool.{nat_le, nat_lt}
 use Rattle.nf_cells.specs.Names.{first_seen, has_name, place_of}
-use Rattle.nf_cells.specs.declared.values.Bound.{Bound}
 use Rattle.nf_cells.specs.declared.values.Cell.{Cell}
 use Rattle.nf_cells.specs.declared.values.Cell.TheVariants.{Missing, Bad, Is}
-use Rattle.nf_cells.specs.declared.values.Bound.TheVariants.{Infinite}
 use Rattle.nf_cells.proofs.SeenFacts.{at-place, place-less}
 use Rattle.nf_program.specs.declared.program.Role.TheVariants as role
 use Rattle.nf_roles.specs.declared.fault.DataKind.TheVariants as kind
@@ -17,7 +15,9 @@ use Rattle.nf_network.specs.Excess.{joined_below}
 use Rattle.nf_network.specs.Faults.{is_said}
 use Rattle.nf_network.proofs.Lists.{joined-more, joined-none, joined-ones}
 use Rattle.nf_network.proofs.PassFacts.{map-length}
-use Rattle.nf_cons.specs.declared.types.RowType.{RowType}
+use Rattle.nf_cons.specs.declared.value.Value.{Value}
+use Rattle.nf_cons.specs.declared.value.Value.TheVariants.{NoUpper}
+use Rattle.nf_cons.specs.declared.row_type.RowType.{RowType}
 use Rattle.nf_cons.specs.Dense.{most_constraints}
 use Rattle.nf_cons.specs.declared.places.Place.TheVariants.{OfRole}
 use Rattle.nf_cons.specs.declared.places.PlacedFault.{PlacedFault}
@@ -99,7 +99,7 @@ not-right false c h = absurd (cc)
 coef-is : (s : Sparse) (k : ℕ) → has_variable (line_at s k) ≡ true → coef_of (line_at s k) ≡ (line_at s k).coef
 coef-is s k e = ap (λ b. if b then Missing else (line_at s k).coef) (not-right (is_said (line_at s k).column) (is_right (line_at s k)) e)
 
-given-said : (s : Sparse) (k : ℕ) (x : Bound) → has_variable (line_at s k) ≡ true → (line_at s k).coef ≡ Is x
+given-said : (s : Sparse) (k : ℕ) (x : Value) → has_variable (line_at s k) ≡ true → (line_at s k).coef ≡ Is x
     → given_at s k ≡ record { row_type = type_at s k; term = line_term (length s.arcs) (variable_number s k) x; constraint = constraint_at s k; row = k + 1 } ∷ []
 unfolding given_at
 given-said s k x e q = rw (e, q) refl
@@ -112,11 +112,11 @@ given-other : (s : Sparse) (k : ℕ) → has_variable (line_at s k) ≡ false �
 unfolding given_at
 given-other s k e = rw e refl
 
-lists-none : (st : TypedState) (t : RowType) (c n : ℕ) (x : Option Bound) → lists_with st t c n None x ≡ st.lists
+lists-none : (st : TypedState) (t : RowType) (c n : ℕ) (x : Option Value) → lists_with st t c n None x ≡ st.lists
 lists-none st t c n None = refl
 lists-none st t c n (Some x) = refl
 
-faults-none : (st : TypedState) (t : RowType) (cell : Cell Bound) → first_of (taken_faults st t None (value_if cell)) ≡ first_of (value_faults t cell)
+faults-none : (st : TypedState) (t : RowType) (cell : Cell Value) → first_of (taken_faults st t None (value_if cell)) ≡ first_of (value_faults t cell)
 faults-none st t Missing = refl
 faults-none st t Bad = refl
 faults-none st t (Is x) = refl
@@ -184,7 +184,7 @@ module _ (s : Sparse) (l : LineState) (after : IsAfterLines s (length s.lines) l
       none : given_at s k ≡ [] → lists_of (givens s (k + 1)) ≡ lists_of (givens s k)
       none h = more [] h ∙ ap lists_of (append-nil (givens s k))
 
-      by_coef : has_variable (line_at s k) ≡ true → (c : Cell Bound) → (line_at s k).coef ≡ c
+      by_coef : has_variable (line_at s k) ≡ true → (c : Cell Value) → (line_at s k).coef ≡ c
           → lists_with (state_to k) (type_at s k) (constraint_at s k) (k + 1) (Some (variable_number s k)) (value_if c) ≡ lists_of (givens s (k + 1))
       by_coef e Missing q = sym (none (given-missing s k e (ap is_said q)))
       by_coef e Bad q = sym (none (given-missing s k e (ap is_said q)))
@@ -241,8 +241,8 @@ module _ (s : Sparse) (l : LineState) (after : IsAfterLines s (length s.lines) l
           ∙ ap (λ c. first_of (number_faults s k ++ (if is_said (line_at s k).coef then term_faults (type_at s k) (term_at s k) (lists_of (givens s k)) else value_faults (type_at s k) c))) (sym (coef-is s k e))
           ∙ ap (λ b. first_of (number_faults s k ++ (if b && is_said (line_at s k).coef then term_faults (type_at s k) (term_at s k) (lists_of (givens s k)) else value_faults (type_at s k) (coef_of (line_at s k))))) (sym e)
         where
-          by_coef : (c : Cell Bound) → first_of (number_faults s k ++ taken_faults (state_to k) (type_at s k) (Some (variable_number s k)) (value_if c))
-              ≡ first_of (number_faults s k ++ (if is_said c then term_faults (type_at s k) (line_term (length s.arcs) (variable_number s k) (said Infinite c)) (lists_of (givens s k)) else value_faults (type_at s k) c))
+          by_coef : (c : Cell Value) → first_of (number_faults s k ++ taken_faults (state_to k) (type_at s k) (Some (variable_number s k)) (value_if c))
+              ≡ first_of (number_faults s k ++ (if is_said c then term_faults (type_at s k) (line_term (length s.arcs) (variable_number s k) (said NoUpper c)) (lists_of (givens s k)) else value_faults (type_at s k) c))
           by_coef Missing = refl
           by_coef Bad = refl
           by_coef (Is x) = ap (λ a. first_of (number_faults s k ++ term_faults (type_at s k) (line_term a (variable_number s k) x) (lists_of (givens s k)))) arcs-are
@@ -279,7 +279,7 @@ pub map-match : {A B : Type 0} (r : Result A B) {P Q : A → Type 0} {S T : B �
 map-match (Ok x) h f g = f x h
 map-match (Err e) h f g = g e h
 
-pub take-clear : (s : TypedState) (l : TakenLine) (g : GivenRow) (n : ℕ) (t : RowType) (v : ℕ) (x : Bound) (a new : TypedState) → t ≡ type_now s g → l.variable ≡ Some v → l.coef ≡ Some x
+pub take-clear : (s : TypedState) (l : TakenLine) (g : GivenRow) (n : ℕ) (t : RowType) (v : ℕ) (x : Value) (a new : TypedState) → t ≡ type_now s g → l.variable ≡ Some v → l.coef ≡ Some x
     → first_of (number_faults_now s l.row t) ≡ None → a ≡ with_number s l.row t g.right
     → (first_of (term_faults t (line_term a.variables.arcs.count v x) a.lists) ≡ None)
     × (new ≡ record a { lists = with_given a.lists (record { row_type = t; term = line_term a.variables.arcs.count v x; constraint = get_or a.numbers l.row 0; row = n }) })
@@ -293,12 +293,35 @@ take-clear s l g n t v x a new et ev ex number ea h =
       k.1 ∙ rw (ev, ex) refl,
     )
 
-pub take-told : (s : TypedState) (l : TakenLine) (g : GivenRow) (t : RowType) (v : ℕ) (x : Bound) (a : TypedState) (f : PlacedFault) → t ≡ type_now s g → l.variable ≡ Some v → l.coef ≡ Some x
+pub take-told : (s : TypedState) (l : TakenLine) (g : GivenRow) (t : RowType) (v : ℕ) (x : Value) (a : TypedState) (f : PlacedFault) → t ≡ type_now s g → l.variable ≡ Some v → l.coef ≡ Some x
     → first_of (number_faults_now s l.row t) ≡ None → a ≡ with_number s l.row t g.right
     → IsFaultOf (first_of (term_faults t (line_term a.variables.arcs.count v x) a.lists)) f → IsFaultOf (first_of (typed_faults_now s l g)) f
 take-told s l g t v x a f et ev ex number ea h =
     let k = rw (ea, et) at h in
     let c : first_of (number_faults_now s l.row (type_now s g)) ≡ None = rw et at number in
+    let d : IsFaultOf (first_of (taken_faults s (type_now s g) l.variable l.coef)) f = rw (ev, ex) k in
+    subst (λ o. IsFaultOf o f) (sym (first-append (number_faults_now s l.row (type_now s g)) (taken_faults s (type_now s g) l.variable l.coef)))
+    (right (first_of (number_faults_now s l.row (type_now s g))) (first_of (taken_faults s (type_now s g) l.variable l.coef)) f c d)
+
+-- The same for a line that gives no variable a value.
+pub value-clear : (s : TypedState) (l : TakenLine) (g : GivenRow) (n : ℕ) (t : RowType) (x : Value) (a new : TypedState) → t ≡ type_now s g → l.variable ≡ None → l.coef ≡ Some x
+    → first_of (number_faults_now s l.row t) ≡ None → a ≡ with_number s l.row t g.right → new ≡ a → first_of (value_faults t (Is x)) ≡ None
+    → (first_of (typed_faults_now s l g) ≡ None) × (new ≡ with_taken s l g n)
+value-clear s l g n t x a new et ev ex number ea en h =
+    let c : first_of (number_faults_now s l.row (type_now s g)) ≡ None = rw et at number in
+    let k : first_of (value_faults (type_now s g) (Is x)) ≡ None = rw et at h in
+    let d : first_of (taken_faults s (type_now s g) l.variable l.coef) ≡ None = rw (ev, ex) k in
+    let m : a ≡ with_number s l.row (type_now s g) g.right = rw et at ea in (
+      first-append (number_faults_now s l.row (type_now s g)) (taken_faults s (type_now s g) l.variable l.coef)
+          ∙ both (first_of (number_faults_now s l.row (type_now s g))) (first_of (taken_faults s (type_now s g) l.variable l.coef)) c d,
+      en ∙ m ∙ rw (ev, ex) refl,
+    )
+
+pub value-told : (s : TypedState) (l : TakenLine) (g : GivenRow) (t : RowType) (x : Value) (f : PlacedFault) → t ≡ type_now s g → l.variable ≡ None → l.coef ≡ Some x
+    → first_of (number_faults_now s l.row t) ≡ None → IsFaultOf (first_of (value_faults t (Is x))) f → IsFaultOf (first_of (typed_faults_now s l g)) f
+value-told s l g t x f et ev ex number h =
+    let c : first_of (number_faults_now s l.row (type_now s g)) ≡ None = rw et at number in
+    let k : IsFaultOf (first_of (value_faults (type_now s g) (Is x))) f = rw et at h in
     let d : IsFaultOf (first_of (taken_faults s (type_now s g) l.variable l.coef)) f = rw (ev, ex) k in
     subst (λ o. IsFaultOf o f) (sym (first-append (number_faults_now s l.row (type_now s g)) (taken_faults s (type_now s g) l.variable l.coef)))
     (right (first_of (number_faults_now s l.row (type_now s g))) (first_of (taken_faults s (type_now s g) l.variable l.coef)) f c d)

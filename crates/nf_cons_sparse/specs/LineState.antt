@@ -1,5 +1,5 @@
--- How the first pass over the lines of sparse CONDATA stands, and what one line more finds and leaves.
--- The promise of the first round rests on it.
+-- Working definitions, on which the promise of `sparse` does not rest: how the first pass over the lines of sparse CONDATA
+-- stands, and what one line more finds and leaves.
 use Rattle.std.specs.Prelude.{◌≡◌, ◌++◌, ◌&&◌, ℕ, Bool, true, false, List, [], ◌∷◌, Option, Some, None, if◌then◌else◌, is_some, unwrap_or, length, map, get_or, slice_set}
 use Rattle.std.specs.Bool.{nat_le}
 use Rattle.nf_frac.specs.declared.amount.Amount.{Amount}
@@ -13,7 +13,7 @@ use Rattle.nf_network.specs.Excess.{joined_below}
 use Rattle.nf_network.specs.Faults.{is_said}
 use Rattle.nf_cons.specs.declared.places.Place.TheVariants.{OfRole}
 use Rattle.nf_cons.specs.declared.places.PlacedFault.{PlacedFault}
-use Rattle.nf_cons.specs.declared.types.RowType.{RowType}
+use Rattle.nf_cons.specs.declared.row_type.RowType.{RowType}
 use Rattle.nf_cons.specs.Dense.{most_coefficients}
 use Rattle.nf_cons.specs.Naming.{IsSound, VariableList, faults_now, number_now, with_mention}
 use Rattle.nf_cons.specs.Passing.{AreNamed}

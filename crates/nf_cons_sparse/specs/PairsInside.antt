@@ -1,4 +1,4 @@
--- What `Pairs` keeps in its fields.
+-- Working definitions, on which the promise of `sparse` does not rest: what `Pairs` keeps in its fields.
 -- The contracts of its methods rest on it.
 use Rattle.std.specs.Prelude.{ℕ, List}
 use Rattle.nf_cons_sparse.specs.declared.pairs.Pairs.TheInside.{Inside}

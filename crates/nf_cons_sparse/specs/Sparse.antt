@@ -8,11 +8,9 @@ use Rattle.std.specs.Str.{bytes_eq}
 use Rattle.nf_frac.specs.declared.amount.Amount.{Amount}
 use Rattle.nf_table.specs.Grid.{Cells}
 use Rattle.nf_cells.specs.Names.{Name, first_seen, has_name, place_of}
-use Rattle.nf_cells.specs.Values.{cell_by, cell_now, name_in, amount_in, bound_in}
+use Rattle.nf_cells.specs.Values.{cell_by, cell_now, name_in, amount_in}
 use Rattle.nf_cells.specs.declared.values.Cell.{Cell}
 use Rattle.nf_cells.specs.declared.values.Cell.TheVariants.{Missing, Bad, Is}
-use Rattle.nf_cells.specs.declared.values.Bound.{Bound}
-use Rattle.nf_cells.specs.declared.values.Bound.TheVariants.{Finite, Infinite}
 use Rattle.nf_program.specs.declared.program.Role.{Role}
 use Rattle.nf_program.specs.declared.program.Role.TheVariants as role
 use Rattle.nf_roles.specs.declared.fault.DataKind.TheVariants as kind
@@ -27,12 +25,14 @@ use Rattle.nf_cons.specs.declared.places.PlacedFault.{PlacedFault}
 use Rattle.nf_cons.specs.declared.places.RowFault.{RowFault}
 use Rattle.nf_cons.specs.declared.taken.SideRow.{SideRow}
 use Rattle.nf_cons.specs.declared.taken.Term.{Term}
-use Rattle.nf_cons.specs.declared.types.RowType.{RowType}
-use Rattle.nf_cons.specs.declared.types.RowType.TheVariants.{Upper}
+use Rattle.nf_cons.specs.declared.row_type.RowType.{RowType}
+use Rattle.nf_cons.specs.declared.value.Value.{Value}
+use Rattle.nf_cons.specs.declared.value.Value.TheVariants.{Finite, NoUpper, NoLower}
 use Rattle.nf_cons.specs.Types.{is_side, same_type, side_kind, type_in}
+use Rattle.nf_cons.specs.Values.{may_be, value_in}
 use Rattle.nf_cons.specs.Places.{fault_if, first_of, in_row}
 use Rattle.nf_cons.specs.Variables.{Mention, number_in, variable_faults}
-use Rattle.nf_cons.specs.Terms.{Given, is_infinite, lists_of, term_faults}
+use Rattle.nf_cons.specs.Terms.{Given, lists_of, term_faults}
 use Rattle.nf_cons.specs.Dense.{most_coefficients, most_constraints, side_if}
 
 -- ---- lines
@@ -41,20 +41,20 @@ pub record SparseLine : Type 0 where
   pub row : Cell Name
   pub row_type : Cell RowType
   pub column : Cell Name
-  pub coef : Cell Bound
+  pub coef : Cell Value
   pub right : Cell Amount
 
 -- The value of a cell, whatever its bytes.
-abbrev pub value_in : List ℕ → Cell Name
-value_in = cell_by (λ v. Some v)
+abbrev pub text_in : List ℕ → Cell Name
+text_in = cell_by (λ v. Some v)
 
 -- A line, read by roles.
 abbrev pub sparse_line : RoleColumns → Cells → SparseLine
 sparse_line roles cells = record {
   row = name_in (cell_for roles role.Row cells);
   row_type = type_in (cell_for roles role.ConKind cells);
-  column = value_in (cell_for roles role.Column cells);
-  coef = bound_in (cell_for roles role.Coef cells);
+  column = text_in (cell_for roles role.Column cells);
+  coef = value_in (cell_for roles role.Coef cells);
   right = amount_in (cell_for roles role.Rhs cells);
 }
 
@@ -80,18 +80,19 @@ is_right l = bytes_eq (variable_of l) (codes "_RHS_")
 abbrev pub has_variable : SparseLine → Bool
 has_variable l = is_said l.column && not (is_right l)
 
-abbrev pub coef_of : SparseLine → Cell Bound
+abbrev pub coef_of : SparseLine → Cell Value
 coef_of l = if is_right l then Missing else l.coef
 
 abbrev pub has_coefficient : SparseLine → Bool
 has_coefficient l = has_variable l && is_said l.coef
 
--- A coefficient as a right side: INF is none.
-abbrev pub as_right : Cell Bound → Cell Amount
+-- A coefficient as a right side: INF and -INF are none.
+abbrev pub as_right : Cell Value → Cell Amount
 as_right Missing = Missing
 as_right Bad = Bad
 as_right (Is (Finite a)) = Is a
-as_right (Is Infinite) = Bad
+as_right (Is NoUpper) = Bad
+as_right (Is NoLower) = Bad
 
 abbrev pub coef_right : SparseLine → Cell Amount
 coef_right l = if is_right l then as_right l.coef else Missing
@@ -255,11 +256,11 @@ abbrev pub constraint_at : Sparse → ℕ → ℕ
 constraint_at s k = get_or (side_numbers s (k + 1)) (row_number s k) 0
 
 -- What line k gives, if it has a coefficient, and what the first k lines give.
-abbrev pub line_term : ℕ → ℕ → Bound → Term
+abbrev pub line_term : ℕ → ℕ → Value → Term
 line_term arcs v x = record { variable = v; is_arc = nat_lt v arcs; value = x; named_at = OfRole role.Column; given_at = OfRole role.Coef }
 
 abbrev pub term_at : Sparse → ℕ → Term
-term_at s k = line_term (length s.arcs) (variable_number s k) (said Infinite (line_at s k).coef)
+term_at s k = line_term (length s.arcs) (variable_number s k) (said NoUpper (line_at s k).coef)
 
 unfoldable pub given_at : Sparse → ℕ → List Given
 given_at s k =
@@ -270,19 +271,19 @@ given_at s k =
 abbrev pub givens : Sparse → ℕ → List Given
 givens s k = joined_below k (given_at s)
 
--- A value without a variable is INF.
-abbrev pub is_infinite_cell : Cell Bound → Bool
-is_infinite_cell Missing = false
-is_infinite_cell Bad = false
-is_infinite_cell (Is x) = is_infinite x
+-- A cell says a value that a row of this type may not give.
+abbrev pub is_misplaced : RowType → Cell Value → Bool
+is_misplaced t Missing = false
+is_misplaced t Bad = false
+is_misplaced t (Is x) = not (may_be t x)
 
 -- The fault of line k in the second round: of the number of its constraint, and of its coefficient.
 abbrev pub number_faults : Sparse → ℕ → List (Option PlacedFault)
 number_faults s k =
     fault_if (is_first s k && is_side (type_at s k) && nat_le most_constraints (length (sides s k))) (OfRole role.Row) kind.LimitPassed ∷ []
 
-abbrev pub value_faults : RowType → Cell Bound → List (Option PlacedFault)
-value_faults t cell = fault_if (is_infinite_cell cell && not (same_type t Upper)) (OfRole role.Coef) kind.Amount ∷ []
+abbrev pub value_faults : RowType → Cell Value → List (Option PlacedFault)
+value_faults t cell = fault_if (is_misplaced t cell) (OfRole role.Coef) kind.Amount ∷ []
 
 unfoldable pub typed_fault_at : Sparse → ℕ → Option PlacedFault
 typed_fault_at s k =

@@ -1,10 +1,9 @@
--- How the second pass over the lines of sparse CONDATA stands, and what one line more finds and leaves.
--- The promise of the second round rests on it.
+-- Working definitions, on which the promise of `sparse` does not rest: how the second pass over the lines of sparse CONDATA
+-- stands, and what one line more finds and leaves.
 use Rattle.std.specs.Prelude.{◌≤◌, ◌<◌, ◌^◌, ◌+◌, ◌++◌, ◌&&◌, ℕ, zero, suc, pos, not, List, [], ◌∷◌, Option, Some, None, if◌then◌else◌, unwrap_or, length, get_or}
 use Rattle.std.specs.Bool.{nat_le, nat_lt}
 use Rattle.nf_frac.specs.declared.amount.Amount.{Amount}
 use Rattle.nf_cells.specs.Names.{Name}
-use Rattle.nf_cells.specs.declared.values.Bound.{Bound}
 use Rattle.nf_cells.specs.declared.values.Cell.TheVariants.{Is}
 use Rattle.nf_program.specs.declared.program.Role.TheVariants as role
 use Rattle.nf_roles.specs.declared.fault.DataKind.TheVariants as kind
@@ -13,7 +12,8 @@ use Rattle.nf_cons.specs.declared.places.Place.TheVariants.{OfRole}
 use Rattle.nf_cons.specs.declared.places.PlacedFault.{PlacedFault}
 use Rattle.nf_cons.specs.declared.places.RowFault.{RowFault}
 use Rattle.nf_cons.specs.declared.taken.SideRow.{SideRow}
-use Rattle.nf_cons.specs.declared.types.RowType.{RowType}
+use Rattle.nf_cons.specs.declared.row_type.RowType.{RowType}
+use Rattle.nf_cons.specs.declared.value.Value.{Value}
 use Rattle.nf_cons.specs.Dense.{most_constraints, side_if}
 use Rattle.nf_cons.specs.Naming.{VariableList}
 use Rattle.nf_cons.specs.Places.{fault_if, first_of, in_row}
@@ -50,13 +50,13 @@ abbrev pub sides_with : TypedState → ℕ → RowType → Option Amount → Lis
 sides_with s row t right = if nat_lt row (length s.numbers) then s.sides else s.sides ++ side_if row (unwrap_or right (record { thousandths = pos 0 })) (side_kind t)
 
 -- The faults of a coefficient of a variable, or of none.
-abbrev pub taken_faults : TypedState → RowType → Option ℕ → Option Bound → List (Option PlacedFault)
+abbrev pub taken_faults : TypedState → RowType → Option ℕ → Option Value → List (Option PlacedFault)
 taken_faults s t v None = []
 taken_faults s t None (Some x) = value_faults t (Is x)
 taken_faults s t (Some v) (Some x) = term_faults t (line_term s.variables.arcs.count v x) s.lists
 
 -- What is given with a coefficient of a variable.
-abbrev pub lists_with : TypedState → RowType → ℕ → ℕ → Option ℕ → Option Bound → TermLists
+abbrev pub lists_with : TypedState → RowType → ℕ → ℕ → Option ℕ → Option Value → TermLists
 lists_with s t c n v None = s.lists
 lists_with s t c n None (Some x) = s.lists
 lists_with s t c n (Some v) (Some x) = with_given s.lists (record { row_type = t; term = line_term s.variables.arcs.count v x; constraint = c; row = n })

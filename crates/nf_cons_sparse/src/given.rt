@@ -1,6 +1,5 @@
 //! What lines give constraints, and what a line says by numbers.
-use nf_cells::Bound;
-use nf_cons::RowType;
+use nf_cons::{RowType, Value};
 use nf_frac::Amount;
 
 /// What lines give a constraint.
@@ -15,5 +14,5 @@ pub struct GivenRow {
 pub struct TakenLine {
     pub row: usize,
     pub variable: Option<usize>,
-    pub coef: Option<Bound>,
+    pub coef: Option<Value>,
 }

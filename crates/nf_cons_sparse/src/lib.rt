@@ -1,12 +1,11 @@
-//! Sparse CONDATA: the constraints of its lines behind a network, or the first fault.
+//! Sparse CONDATA: the constraints of its lines after a network, or the first fault.
 #![tactic(auto)]
 
+mod first_round;
 mod given;
-mod line;
-mod lines;
 mod pairs;
+mod second_round;
 mod sparse_data;
 mod sparse_line;
-mod typed;
 
 pub use sparse_data::sparse;

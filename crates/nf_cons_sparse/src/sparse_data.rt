@@ -1,6 +1,7 @@
 //! Sparse CONDATA: a line for each coefficient.
 ghost use Rattle.std.specs.Prelude.{◌≡◌, ◌⊎◌, ◌≤◌, ◌<◌, ◌^◌, None, Ok, Err, IfOk, MatchResult, length};
 ghost use Rattle.nf_labels.specs.Labels.{AreLabelsOf, AreNumbered};
+ghost use Rattle.nf_roles.specs.Faults.{out_of_memory};
 ghost use Rattle.nf_roles.specs.Roles.{HasColumnsBelow};
 ghost use Rattle.nf_cons.specs.Due.{IsNetworkOf};
 ghost use Rattle.nf_cons.specs.Making.{AreConstraints};
@@ -11,31 +12,31 @@ ghost use Rattle.nf_cons_sparse.specs.Sparse.{first_line_fault};
 ghost use Rattle.nf_cons_sparse.specs.TypedState.{AreRanked, first_typed_to, typed_to};
 ghost use Rattle.nf_cons_sparse.specs.SparseDue.{sparse_constraints, sparse_due, sparse_fault, sparse_of};
 
-use crate::lines::Lines;
-use crate::typed::TypedLines;
+use crate::first_round::Lines;
+use crate::second_round::TypedLines;
 use nf_cons::{
     Constraints, RowFault, Terms, Variables, add_constraints, arc_names, check_bounds,
     default_type, defaults_of, in_row, no_memory, told,
 };
 use nf_labels::Labels;
 use nf_prob::ProblemBuilder;
-use nf_roles::{DataFault, DataKind, Roles};
-use nf_stmt::{ProcOptions, SetName};
+use nf_program::ProcOptions;
+use nf_roles::{DataFault, Roles};
 use nf_table::Table;
 use std::alloc::Global;
 
-/// Adds the constraints of sparse CONDATA to the network of ARCDATA and NODEDATA, or tells the first fault of CONDATA.
+/// Adds the constraints of sparse CONDATA to the network of ARCDATA and NODEDATA, or reports the first fault of CONDATA.
 ///
 /// Lines with the same ROW are one constraint, numbered by its first line; COLUMN names a variable and COEF its coefficient,
-/// or, where COLUMN is `_RHS_`, the right side. A name of COLUMN that is no arc's is a nonarc variable. A missing COEF gives
+/// or the right side if COLUMN is `_RHS_`. A name of COLUMN that is no arc's is a nonarc variable. A missing COEF gives
 /// nothing, and a line without COLUMN no coefficient. A constraint of type COST, LOWERBD or UPPERBD is no row of the problem:
-/// its coefficients are the costs or bounds of nonarc variables. What is not given has its default: DEFCOST, DEFMINFLOW,
-/// DEFCAPACITY, DEFCONTYPE, and 0 for right sides. MAXIMIZE negates the costs.
+/// its coefficients are the costs or bounds of nonarc variables, where INF is no upper bound and `-INF` no lower bound. What
+/// is not given has its default: DEFCOST, DEFMINFLOW, DEFCAPACITY, DEFCONTYPE, and 0 for right sides. MAXIMIZE negates the
+/// costs.
 ///
-/// Builder and labels are those that one call of `network` with these options answered, and the roles are those that
-/// `assign` gives for this table as `Sparse`. The fault is the first of the lines from 1 on, then of the lines with all types
-/// known, then of the bounds of nonarc variables; `NoMemory` where there is no memory. After a fault builder and labels are
-/// not used again.
+/// Builder and labels are those that one call of `network` with these options made, and the roles are those that `assign`
+/// gives for this table as `Sparse`. The fault is the first of the lines from 1 on, then of the lines with all types known,
+/// then of the bounds of nonarc variables; `NoMemory` if out of memory. After a fault builder and labels are not used again.
 pub fn sparse(
     alloc: Global,
     builder: &mut ProblemBuilder,
@@ -49,7 +50,7 @@ pub fn sparse(
     ensures answer { MatchResult result
         (λ _. sparse_due options.now (record { program = builder.old; labels = labels.old }) roles.now table.now
         ≡ Ok (record { program = builder.new; labels = labels.new }))
-        (λ e. (e.kind ≡ DataKind.NoMemory)
+        (λ e. (e ≡ out_of_memory)
         ⊎ (sparse_due options.now (record { program = builder.old; labels = labels.old }) roles.now table.now ≡ Err e)) }
     ensures fit { IfOk result (λ _. AreNumbered labels.new builder.new) }
     ensures labelled { IfOk result (λ _. AreLabelsOf labels.old builder.old → AreLabelsOf labels.new builder.new) }
@@ -60,7 +61,7 @@ pub fn sparse(
     };
     match add_constraints(builder, labels, &constraints, options) {
         Ok(()) => Ok(()),
-        Err(_) => Err(DataFault::no_memory(alloc, SetName::Condata)),
+        Err(_) => Err(DataFault::no_memory(alloc)),
     }
 }
 

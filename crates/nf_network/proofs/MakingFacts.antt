@@ -45,7 +45,7 @@ ends-are t h =
     rw (s, less) refl
 
 pub column-added : (p : LinearProgram) (t h : ℕ) (cost lower : ℚ) (upper : Option ℚ)
-    → with_column p (t + 1) (h + 1) cost lower upper ≡ with_arcs p (new_column (Some (record { tail = t; head = h })) cost lower upper ∷ [])
+    → with_column p (t + 1) (h + 1) cost (Some lower) upper ≡ with_arcs p (new_column (Some (record { tail = t; head = h })) cost (Some lower) upper ∷ [])
 column-added p t h cost lower upper = let n : suc p.arcs ≡ p.arcs + 1 = omega arith in rw (ends-are t h, n) refl
 
 -- ---- what the builder asks for
@@ -166,7 +166,7 @@ get-same (x ∷ xs) (suc i) d e h = get-same xs i d e (omega (arith, h))
 
 pub made-at : (m : Bool) (ks : List Key) (fs : List Figures) (i t h : ℕ) (cost lower : ℚ) (upper : Option ℚ) (f : Figures) → i < length fs → f ≡ get_or fs i f
     → t ≡ (get_or ks i no_key).tail → h ≡ (get_or ks i no_key).head → cost ≡ in_sense m f.cost → lower ≡ amount_value f.lower → upper ≡ upper_of f.upper
-    → (new_column (Some (record { tail = t; head = h })) cost lower upper ∷ []) ≡ column_at m ks fs i
+    → (new_column (Some (record { tail = t; head = h })) cost (Some lower) upper ∷ []) ≡ column_at m ks fs i
 made-at m ks fs i t h cost lower upper f below is et eh ec el eu =
     let same : get_or fs i no_figures ≡ f = get-same fs i no_figures f below ∙ sym is in
     rw (et, eh, ec, el, eu, same) refl

@@ -9,6 +9,7 @@ use Rattle.nf_program.specs.declared.program.SetName.TheVariants as set
 use Rattle.nf_roles.specs.declared.fault.CellFault.{CellFault}
 use Rattle.nf_roles.specs.declared.fault.DataFault.{DataFault}
 use Rattle.nf_roles.specs.declared.fault.DataKind.TheVariants as kind
+use Rattle.nf_roles.specs.Faults.{out_of_memory}
 use Rattle.nf_roles.specs.First.{or_else}
 use Rattle.nf_roles.specs.Roles.{RoleColumns, column_text}
 use Rattle.nf_roles.proofs.Lists.{none-yet}
@@ -46,20 +47,20 @@ same-after (Some x) b c h = refl
 
 -- a fault of a cell is told by its set, row and column
 pub told : (s : SetName) (roles : RoleColumns) (header : Cells) (n : ℕ) (f : CellFault) (e : DataFault) (due : Option (ℕ × CellFault)) → (f.kind ≡ kind.NoMemory) ⊎ (due ≡ Some (n, f))
-    → (e.kind ≡ kind.NoMemory) ⊎ (e ≡ record { set = s; row = n; column = column_text roles header f.role; kind = f.kind }) → (e.kind ≡ kind.NoMemory) ⊎ (in_set s roles header due ≡ Some e)
-told s roles header n f e due d (inl k) = inl k
-told s roles header n f e due (inl m) (inr is) = inl (ap (λ x. x.kind) is ∙ m)
-told s roles header n f e due (inr d) (inr is) = inr (rw d (ap Some (sym is)))
+    → (e ≡ out_of_memory) ⊎ (e ≡ record { set = s; row = n; column = column_text roles header f.role; kind = f.kind }) → (f.kind ≡ kind.NoMemory → e ≡ out_of_memory) → (e ≡ out_of_memory) ⊎ (in_set s roles header due ≡ Some e)
+told s roles header n f e due (inl m) is memory = inl (memory m)
+told s roles header n f e due (inr d) (inl m) memory = inl m
+told s roles header n f e due (inr d) (inr is) memory = inr (rw d (ap Some (sym is)))
 
 module _ (d : Defaults) (arc_roles : RoleColumns) (arcs : Grid) (node_roles : RoleColumns) (nodes : Grid) where
-  pub rows-arc : (e : DataFault) → (e.kind ≡ kind.NoMemory) ⊎ (in_set set.Arcdata arc_roles arcs.header (first_arc_fault d (arc_rows arc_roles arcs.rows)) ≡ Some e)
-      → (e.kind ≡ kind.NoMemory) ⊎ (rows_fault d arc_roles arcs node_roles nodes ≡ Some e)
+  pub rows-arc : (e : DataFault) → (e ≡ out_of_memory) ⊎ (in_set set.Arcdata arc_roles arcs.header (first_arc_fault d (arc_rows arc_roles arcs.rows)) ≡ Some e)
+      → (e ≡ out_of_memory) ⊎ (rows_fault d arc_roles arcs node_roles nodes ≡ Some e)
   rows-arc e (inl m) = inl m
   rows-arc e (inr h) = inr (rw h refl)
 
   pub rows-node : (e : DataFault) → first_arc_fault d (arc_rows arc_roles arcs.rows) ≡ None
-      → (e.kind ≡ kind.NoMemory) ⊎ (in_set set.Nodedata node_roles nodes.header (first_node_fault (arc_rows arc_roles arcs.rows) (node_rows node_roles nodes.rows)) ≡ Some e)
-      → (e.kind ≡ kind.NoMemory) ⊎ (rows_fault d arc_roles arcs node_roles nodes ≡ Some e)
+      → (e ≡ out_of_memory) ⊎ (in_set set.Nodedata node_roles nodes.header (first_node_fault (arc_rows arc_roles arcs.rows) (node_rows node_roles nodes.rows)) ≡ Some e)
+      → (e ≡ out_of_memory) ⊎ (rows_fault d arc_roles arcs node_roles nodes ≡ Some e)
   rows-node e a (inl m) = inl m
   rows-node e a (inr h) = inr (rw a h)
 

@@ -1,22 +1,21 @@
 -- Facts on repeated arcs: keys with their names beside them, sets of places, and what a set of some arcs tells of all.
-use Rattle.std.proofs.Common.{◌≡◌, ◌≤◌, ◌<◌, ◌+◌, ◌/◌, ◌%◌, ◌^◌, ◌++◌, ◌&&◌, ◌||◌, ◌⊎◌, ℕ, zero, suc, Bool, true, false, not, List, [], ◌∷◌, length, map, take, get_or, nat_eq, subst, refl, sym, ap, ◌∙◌, inl, inr, arith}
-use Rattle.std.specs.Int.{bit_at}
-use Rattle.std.specs.Prelude.{bit_or}
-use Rattle.std.proofs.lemmas.Nat.Bits.{bit_at-lt, bit_at-pow_same, bit_at_or}
+use Rattle.std.proofs.Common.{◌≡◌, ◌≤◌, ◌<◌, ◌+◌, ◌/◌, ◌++◌, ◌&&◌, ◌||◌, ◌⊎◌, ℕ, zero, suc, Bool, true, false, not, List, [], ◌∷◌, length, map, take, get_or, nat_eq, subst, refl, sym, ap, ◌∙◌, inl, inr, arith}
 use Rattle.std.proofs.lemmas.Bool.{cases_Bool, cases_lt, false≢true}
 use Rattle.std.proofs.Math.Bool.{or-false, or-true}
-use Rattle.std.proofs.lemmas.Bool.Decides.{Decides-eqb, eqb_tells}
-use Rattle.std.proofs.lemmas.List.{get_or-set_same, get_or-set_other, get_or_append_left, length-append, take_all, take-append-le}
+use Rattle.std.proofs.lemmas.Bool.Decides.{Decides-eqb}
+use Rattle.std.proofs.lemmas.List.{get_or_append_left, length-append, take_all, take-append-le}
 use Rattle.std.proofs.Math.Seq.{get_or-append_seam, take-append_seam}
 use Rattle.std.proofs.lemmas.List.Folds.{list_any-append}
 use Rattle.std.specs.Str.{bytes_eq}
+use Rattle.nf_bits.specs.Bits.{has_number, with_number}
+use Rattle.nf_bits.proofs.BitFacts.{has-here, has-still}
 use Rattle.nf_cells.specs.Names.{Name}
 use Rattle.nf_labels.specs.Labels.{LabelList, no_labels}
 use Rattle.nf_network.specs.Excess.{joined_below}
 use Rattle.nf_network.specs.Keys.{Key, has_key, no_key, same_key}
 use Rattle.nf_network.specs.KeysInside.{keys_of}
 use Rattle.nf_network.specs.Making.{name_at}
-use Rattle.nf_network.specs.Repeats.{AreShared, AreTaken, has_place, is_met, place_in, repeats, with_place}
+use Rattle.nf_network.specs.Repeats.{AreShared, AreTaken, is_met, place_in, repeats}
 use Rattle.nf_network.proofs.Lists.{joined-map}
 
 -- ---- keys by ends and names
@@ -67,33 +66,6 @@ both-true false b h = absurd (false≢true h)
 second-true : (a b : Bool) → b ≡ true → (a || b) ≡ true
 second-true a b h = rw h (or-true a)
 
--- ---- sets of places
-bit-one : (a b k : ℕ) → (bit_at a k ≡ 1) ⊎ (bit_at b k ≡ 1) → bit_at (bit_or a b) k ≡ 1
-bit-one a b k h =
-    let both = bit_at_or a b k in
-    elim h [
-      | inl e ↦ omega (arith, both, e, bit_at-lt b k)
-      | inr e ↦ omega (arith, both, e, bit_at-lt a k)
-    ]
-
-is-one : (n : ℕ) → n ≡ 1 → nat_eq n 1 ≡ true
-is-one n e = (Decides-eqb n 1).1 e
-
-pub has-here : (words : List ℕ) (p : ℕ) → p / 64 < length words → has_place (with_place words p) p ≡ true
-has-here words p within =
-    let word = get_or-set_same words (p / 64) (bit_or (get_or words (p / 64) 0) (2 ^ (p % 64))) 0 within in
-    is-one _ (ap (λ w. bit_at w (p % 64)) word ∙ bit-one (get_or words (p / 64) 0) (2 ^ (p % 64)) (p % 64) (inr (bit_at-pow_same (p % 64))))
-
-pub has-still : (words : List ℕ) (p q : ℕ) → p / 64 < length words → has_place words q ≡ true → has_place (with_place words p) q ≡ true
-has-still words p q within h =
-    let one : bit_at (get_or words (q / 64) 0) (q % 64) ≡ 1 = (Decides-eqb (bit_at (get_or words (q / 64) 0) (q % 64)) 1).0 h in
-    elim (eqb_tells (q / 64) (p / 64)) [
-      | inl e ↦
-          let word : get_or (with_place words p) (q / 64) 0 ≡ bit_or (get_or words (q / 64) 0) (2 ^ (p % 64)) = rw e.1 (get_or-set_same words (p / 64) (bit_or (get_or words (p / 64) 0) (2 ^ (p % 64))) 0 within) in
-          is-one _ (ap (λ w. bit_at w (q % 64)) word ∙ bit-one (get_or words (q / 64) 0) (2 ^ (p % 64)) (q % 64) (inl one))
-      | inr e ↦ is-one _ (ap (λ w. bit_at w (q % 64)) (get_or-set_other words (p / 64) (q / 64) (bit_or (get_or words (p / 64) 0) (2 ^ (p % 64))) 0 e.1) ∙ one)
-    ]
-
 -- ---- places that are taken, and such that are shared
 pub taken-none : (words : List ℕ) (n : ℕ) → AreTaken words n []
 taken-none words n = λ k h. absurd (false≢true h)
@@ -111,19 +83,19 @@ met-push n x k ks h = by_cases (cases_Bool (is_met n x ks))
         let last : nat_eq (place_in n x) (place_in n k) ≡ true = sym (or-false (nat_eq (place_in n x) (place_in n k))) ∙ rw e at (sym split ∙ h) in
         inr ((Decides-eqb (place_in n x) (place_in n k)).0 last)
 
-pub taken-more : (words : List ℕ) (n : ℕ) (ks : List Key) (k : Key) → place_in n k / 64 < length words → AreTaken words n ks → AreTaken (with_place words (place_in n k)) n (ks ++ k ∷ [])
+pub taken-more : (words : List ℕ) (n : ℕ) (ks : List Key) (k : Key) → place_in n k / 64 < length words → AreTaken words n ks → AreTaken (with_number words (place_in n k)) n (ks ++ k ∷ [])
 taken-more words n ks k within t = λ x h. elim (met-push n x k ks h) [
   | inl m ↦ has-still words (place_in n k) (place_in n x) within (t x m)
-  | inr e ↦ subst (λ p. has_place (with_place words (place_in n k)) p ≡ true) (sym e) (has-here words (place_in n k) within)
+  | inr e ↦ subst (λ p. has_number (with_number words (place_in n k)) p ≡ true) (sym e) (has-here words (place_in n k) within)
 ]
 
 -- an arc more, whose place is in the set if one before it has it
-pub shared-more : (words new : List ℕ) (n : ℕ) (ks : List Key) (k : Key) → ((q : ℕ) → has_place words q ≡ true → has_place new q ≡ true) → (is_met n k ks ≡ true → has_place new (place_in n k) ≡ true)
+pub shared-more : (words new : List ℕ) (n : ℕ) (ks : List Key) (k : Key) → ((q : ℕ) → has_number words q ≡ true → has_number new q ≡ true) → (is_met n k ks ≡ true → has_number new (place_in n k) ≡ true)
     → AreShared words n ks → AreShared new n (ks ++ k ∷ [])
 shared-more words new n ks k grows here s = λ j below h. by_cases j below h (cases_lt j (length ks))
   where
     by_cases : (j : ℕ) → j < length (ks ++ k ∷ []) → is_met n (get_or (ks ++ k ∷ []) j no_key) (take j (ks ++ k ∷ [])) ≡ true → (j < length ks) ⊎ (length ks ≤ j)
-        → has_place new (place_in n (get_or (ks ++ k ∷ []) j no_key)) ≡ true
+        → has_number new (place_in n (get_or (ks ++ k ∷ []) j no_key)) ≡ true
     by_cases j below h (inl less) =
         let at = get_or_append_left ks (k ∷ []) no_key j less in
         let front = take-append-le j ks (k ∷ []) (omega (arith, less)) in
@@ -138,7 +110,7 @@ shared-more words new n ks k grows here s = λ j below h. by_cases j below h (ca
         rw at (here met)
 
 -- where the set of taken places tells that none before it has its place
-pub alone : (words : List ℕ) (n : ℕ) (ks : List Key) (k : Key) → AreTaken words n ks → has_place words (place_in n k) ≡ false → is_met n k ks ≡ true → ⊥
+pub alone : (words : List ℕ) (n : ℕ) (ks : List Key) (k : Key) → AreTaken words n ks → has_number words (place_in n k) ≡ false → is_met n k ks ≡ true → ⊥
 alone words n ks k t free met = false≢true (sym free ∙ t k met)
 
 -- ---- an arc that repeats another has its place
@@ -158,7 +130,7 @@ met-if n k (l ∷ ks) h = by_cases (cases_Bool (same_key k l)) (met-if n k ks)
     by_cases (inr e) below = second-true (nat_eq (place_in n k) (place_in n l)) (is_met n k ks) (below (rw e at h))
 
 -- an arc whose place is its own repeats none
-pub not-met : (words : List ℕ) (n : ℕ) (ks : List Key) (i : ℕ) → AreShared words n ks → i < length ks → has_place words (place_in n (get_or ks i no_key)) ≡ false → repeats ks i ≡ false
+pub not-met : (words : List ℕ) (n : ℕ) (ks : List Key) (i : ℕ) → AreShared words n ks → i < length ks → has_number words (place_in n (get_or ks i no_key)) ≡ false → repeats ks i ≡ false
 not-met words n ks i s below free = by_cases (cases_Bool (repeats ks i))
   where
     by_cases : (repeats ks i ≡ true) ⊎ (repeats ks i ≡ false) → repeats ks i ≡ false
@@ -168,7 +140,7 @@ not-met words n ks i s below free = by_cases (cases_Bool (repeats ks i))
 -- ---- the set of those whose place is another's too
 -- it tells for each such arc whether it is among these arcs
 abbrev pub TellsOf : List ℕ → ℕ → List Key → List Key → Type 0
-TellsOf words n seen ks = (x : Key) → has_place words (place_in n x) ≡ true → has_key x seen ≡ has_key x ks
+TellsOf words n seen ks = (x : Key) → has_number words (place_in n x) ≡ true → has_key x seen ≡ has_key x ks
 
 pub tells-none : (words : List ℕ) (n : ℕ) → TellsOf words n [] []
 tells-none words n = λ x h. refl
@@ -187,16 +159,16 @@ has-push x k ks = list_any-append (same_key x) ks (k ∷ [])
 pub tells-both : (words : List ℕ) (n : ℕ) (seen ks : List Key) (k : Key) → TellsOf words n seen ks → TellsOf words n (seen ++ k ∷ []) (ks ++ k ∷ [])
 tells-both words n seen ks k t = λ x h. rw (has-push x k seen, has-push x k ks, t x h) refl
 
-pub tells-still : (words : List ℕ) (n : ℕ) (seen ks : List Key) (k : Key) → has_place words (place_in n k) ≡ false → TellsOf words n seen ks → TellsOf words n seen (ks ++ k ∷ [])
+pub tells-still : (words : List ℕ) (n : ℕ) (seen ks : List Key) (k : Key) → has_number words (place_in n k) ≡ false → TellsOf words n seen ks → TellsOf words n seen (ks ++ k ∷ [])
 tells-still words n seen ks k few t = λ x h. by_cases x h (cases_Bool (same_key x k))
   where
-    by_cases : (x : Key) → has_place words (place_in n x) ≡ true → (same_key x k ≡ true) ⊎ (same_key x k ≡ false) → has_key x seen ≡ has_key x (ks ++ k ∷ [])
+    by_cases : (x : Key) → has_number words (place_in n x) ≡ true → (same_key x k ≡ true) ⊎ (same_key x k ≡ false) → has_key x seen ≡ has_key x (ks ++ k ∷ [])
     by_cases x h (inl e) =
-        absurd (false≢true (sym few ∙ ap (has_place words) (sym (same-place n x k e)) ∙ h))
+        absurd (false≢true (sym few ∙ ap (has_number words) (sym (same-place n x k e)) ∙ h))
     by_cases x h (inr e) = t x h ∙ sym (rw (has-push x k ks, e) (or-false (has_key x ks)))
 
 -- one of them is new
-pub fresh-next : (words : List ℕ) (n : ℕ) (seen new front : List Key) (a k : Key) (b : Bool) → a ≡ k → b ≡ not (has_key a seen) → b ≡ true → (has_key a seen ≡ false → new ≡ seen ++ a ∷ []) → has_place words (place_in n k) ≡ true
+pub fresh-next : (words : List ℕ) (n : ℕ) (seen new front : List Key) (a k : Key) (b : Bool) → a ≡ k → b ≡ not (has_key a seen) → b ≡ true → (has_key a seen ≡ false → new ≡ seen ++ a ∷ []) → has_number words (place_in n k) ≡ true
     → TellsOf words n seen front → (has_key k front ≡ false) × TellsOf words n new (front ++ k ∷ [])
 fresh-next words n seen new front a k b same is new_one added shared t =
     let fresh : has_key a seen ≡ false = not-true (has_key a seen) (sym is ∙ new_one) in
@@ -204,7 +176,7 @@ fresh-next words n seen new front a k b same is new_one added shared t =
     (clear, rw (added fresh, same) (tells-both words n seen front k t))
 
 -- or it is not
-pub known-repeats : (words : List ℕ) (n : ℕ) (seen front : List Key) (a k : Key) (b : Bool) → a ≡ k → b ≡ not (has_key a seen) → b ≡ false → has_place words (place_in n k) ≡ true → TellsOf words n seen front → has_key k front ≡ true
+pub known-repeats : (words : List ℕ) (n : ℕ) (seen front : List Key) (a k : Key) (b : Bool) → a ≡ k → b ≡ not (has_key a seen) → b ≡ false → has_number words (place_in n k) ≡ true → TellsOf words n seen front → has_key k front ≡ true
 known-repeats words n seen front a k b same is old_one shared t =
     let known : has_key a seen ≡ true = not-false (has_key a seen) (sym is ∙ old_one) in
     sym (t k shared) ∙ ap (λ x. has_key x seen) (sym same) ∙ known

@@ -1,4 +1,4 @@
--- A balance with one more value, and how far from 0 the total of some values can be.
+-- For a proof alone: a balance with one more value, and how far from 0 the total of some values can be.
 -- The pass that finds the balance of the nodes rests on it.
 use Rattle.std.specs.Prelude.{◌≤◌, ◌*◌, ◌^◌, ◌||◌, ℕ, ℤ, ◌+ℤ◌, Option, unsigned_abs}
 use Rattle.nf_cells.specs.declared.values.Supply.{Supply}

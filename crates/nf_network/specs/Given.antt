@@ -1,4 +1,4 @@
--- What naming a node and giving it a value leave.
+-- For a proof alone: what naming a node and giving it a value leave.
 -- The contracts of `Nodes` and of the passes over rows rest on it.
 use Rattle.std.specs.Prelude.{◌≡◌, ◌<◌, ℕ, [], Some, None, length, get_or, slice_set}
 use Rattle.nf_cells.specs.Names.{Name, place_of}

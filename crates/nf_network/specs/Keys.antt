@@ -1,4 +1,4 @@
--- Arcs by the numbers of their ends, from 0, and their names.
+-- For a proof alone: arcs by the numbers of their ends, from 0, and their names.
 -- That no arc repeats another is seen by these keys.
 use Rattle.std.specs.Prelude.{◌&&◌, ℕ, Bool, List, [], nat_eq}
 use Rattle.std.specs.List.{list_any}

@@ -1,4 +1,4 @@
--- What `ArcKeys` and `KeySet` keep in their fields.
+-- For a proof alone: what `ArcKeys` and `KeySet` keep in their fields.
 -- The contracts of their methods rest on it.
 use Rattle.std.specs.Prelude.{◌≡◌, ◌≤◌, ◌^◌, ℕ, List, [], ◌∷◌, length, map}
 use Rattle.nf_cells.specs.Names.{Name}

@@ -1,4 +1,4 @@
--- The problem as it is made: columns behind columns, and what a call of the builder asks for.
+-- For a proof alone: the problem as it is made: columns behind columns, and what a call of the builder asks for.
 -- What each step of making the problem leaves is said by these words.
 use Rattle.std.specs.Prelude.{◌≡◌, ◌+◌, ◌++◌, ◌≤◌, ◌<◌, ◌^◌, ℕ, Bool, false, List, [], ◌∷◌, Option, Some, length, map, get_or, pos, if◌then◌else◌}
 use Rattle.std.specs.List.{All}
@@ -32,7 +32,7 @@ with_excess p b vs = if has_excess b vs then with_node p (excess_value b) else p
 -- The column of an arc by its numbers of nodes and its figures.
 abbrev pub column_made : Bool → Key → Figures → Column
 column_made maximize k f =
-    new_column (Some (record { tail = k.tail; head = k.head })) (in_sense maximize f.cost) (amount_value f.lower) (upper_of f.upper)
+    new_column (Some (record { tail = k.tail; head = k.head })) (in_sense maximize f.cost) (Some (amount_value f.lower)) (upper_of f.upper)
 
 abbrev pub no_figures : Figures
 no_figures = record { cost = record { thousandths = pos 0 }; lower = record { thousandths = pos 0 }; upper = Infinite }

@@ -65,11 +65,11 @@ upper_of Infinite = None
 abbrev pub arc_column : ProcOptions → List Name → ArcRow → Column
 arc_column o nodes r =
     new_column (Some (record { tail = place_of (tail_of r) nodes; head = place_of (head_of r) nodes }))
-    (in_sense o.maximize (figures_of (defaults_of o) r).cost) (amount_value (figures_of (defaults_of o) r).lower) (upper_of (figures_of (defaults_of o) r).upper)
+    (in_sense o.maximize (figures_of (defaults_of o) r).cost) (Some (amount_value (figures_of (defaults_of o) r).lower)) (upper_of (figures_of (defaults_of o) r).upper)
 
 -- An excess arc costs 0, has the lower bound 0 and no capacity.
 abbrev pub excess_column : ℕ → ℕ → Column
-excess_column tail head = new_column (Some (record { tail = tail; head = head })) zero_ℚ zero_ℚ None
+excess_column tail head = new_column (Some (record { tail = tail; head = head })) zero_ℚ (Some zero_ℚ) None
 
 -- The excess arcs, by node number; `_EXCESS_` comes behind the nodes.
 abbrev pub excess_columns_at : Balance → List (Option Supply) → ℕ → List Column

@@ -1,4 +1,4 @@
--- How a pass over NODEDATA stands after some rows, and what one row more finds.
+-- For a proof alone: how a pass over NODEDATA stands after some rows, and what one row more finds.
 -- The promise of `read_nodes` rests on it.
 use Rattle.std.specs.Prelude.{◌≡◌, ◌++◌, not, List, [], ◌∷◌, Option, None, length, map, get_or}
 use Rattle.std.specs.Bool.{nat_lt}

@@ -1,4 +1,4 @@
--- The nodes so far, each with what it was given.
+-- For a proof alone: the nodes so far, each with what it was given.
 -- The contracts of `Nodes` rest on it.
 use Rattle.std.specs.Prelude.{◌++◌, List, [], ◌∷◌, Option, None, if◌then◌else◌, get_or}
 use Rattle.nf_cells.specs.Names.{Name, has_name, place_of}

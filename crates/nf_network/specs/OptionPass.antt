@@ -1,4 +1,4 @@
--- The faults and gifts of options, by the nodes so far.
+-- For a proof alone: the faults and gifts of options, by the nodes so far.
 -- The promise of the pass over the options rests on it.
 use Rattle.std.specs.Prelude.{not, Option, None, Some, codes}
 use Rattle.nf_frac.specs.declared.amount.Amount.{Amount}

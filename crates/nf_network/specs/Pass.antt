@@ -1,4 +1,4 @@
--- How a pass over the rows of ARCDATA stands after some of them.
+-- For a proof alone: how a pass over the rows of ARCDATA stands after some of them.
 -- The promise of `read_arcs` rests on it.
 use Rattle.std.specs.Prelude.{◌≡◌, ◌++◌, ℕ, true, false, List, [], ◌∷◌, Option, None, map, get_or}
 use Rattle.nf_cells.specs.Names.{Name, has_name, place_of, with_name, first_seen, is_once}

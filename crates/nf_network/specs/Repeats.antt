@@ -1,8 +1,8 @@
--- Which arc is the first that repeats another, by keys and by rows.
+-- For a proof alone: which arc is the first that repeats another, by keys and by rows.
 -- That `network` tells a repeated arc where it is the first fault rests on it.
-use Rattle.std.specs.Prelude.{◌≡◌, ◌<◌, ◌+◌, ◌*◌, ◌/◌, ◌%◌, ◌^◌, ◌⊎◌, ℕ, Bool, true, false, List, Option, Some, None, length, map, take, get_or, set, nat_eq, bit_or}
-use Rattle.std.specs.Int.{bit_at}
+use Rattle.std.specs.Prelude.{◌≡◌, ◌<◌, ◌+◌, ◌*◌, ◌%◌, ◌^◌, ◌⊎◌, ℕ, Bool, true, false, List, Option, Some, None, length, map, take, get_or, nat_eq}
 use Rattle.std.specs.List.{list_any}
+use Rattle.nf_bits.specs.Bits.{has_number}
 use Rattle.nf_cells.specs.Names.{Name}
 use Rattle.nf_program.specs.declared.program.Role.TheVariants as role
 use Rattle.nf_roles.specs.declared.fault.CellFault.{CellFault}
@@ -32,24 +32,17 @@ place_of_ends places tail head = (tail * 20_011 % 2 ^ 64 + head) % 2 ^ 64 % plac
 abbrev pub place_in : ℕ → Key → ℕ
 place_in places k = place_of_ends places k.tail k.head
 
--- A set has a place where its bit is 1, in words of 64 bits.
-abbrev pub has_place : List ℕ → ℕ → Bool
-has_place words place = nat_eq (bit_at (get_or words (place / 64) 0) (place % 64)) 1
-
-abbrev pub with_place : List ℕ → ℕ → List ℕ
-with_place words place = set words (place / 64) (bit_or (get_or words (place / 64) 0) (2 ^ (place % 64)))
-
 -- An arc's place is that of one of these.
 abbrev pub is_met : ℕ → Key → List Key → Bool
 is_met places k ks = list_any (λ l. nat_eq (place_in places k) (place_in places l)) ks
 
 -- A set has the places of all these arcs.
 abbrev pub AreTaken : List ℕ → ℕ → List Key → Type 0
-AreTaken words places ks = (k : Key) → is_met places k ks ≡ true → has_place words (place_in places k) ≡ true
+AreTaken words places ks = (k : Key) → is_met places k ks ≡ true → has_number words (place_in places k) ≡ true
 
 -- A set has the place of each of these arcs that has the place of one before it.
 abbrev pub AreShared : List ℕ → ℕ → List Key → Type 0
-AreShared words places ks = (j : ℕ) → j < length ks → is_met places (get_or ks j no_key) (take j ks) ≡ true → has_place words (place_in places (get_or ks j no_key)) ≡ true
+AreShared words places ks = (j : ℕ) → j < length ks → is_met places (get_or ks j no_key) (take j ks) ≡ true → has_number words (place_in places (get_or ks j no_key)) ≡ true
 
 -- ---- rows
 -- The fault of row k of ARCDATA, counted from 0, where its arc repeats that of a row above it.

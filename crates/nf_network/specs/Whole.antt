@@ -1,4 +1,4 @@
--- What reading ARCDATA, NODEDATA and the options leaves: the nodes with their values, and the arcs with their figures.
+-- For a proof alone: what reading ARCDATA, NODEDATA and the options leaves: the nodes with their values, and the arcs with their figures.
 -- The promise of `network` rests on it.
 use Rattle.std.specs.Prelude.{◌≡◌, List, Option, map}
 use Rattle.nf_table.specs.Grid.{Grid}

@@ -9,8 +9,8 @@ ghost use Rattle.nf_network.specs.Arcs.{figures_of};
 use crate::rows::{ArcRow, Defaults, Figures};
 use nf_cells::{Bound, Cell};
 use nf_frac::Amount;
+use nf_program::Role;
 use nf_roles::{CellFault, DataKind};
-use nf_stmt::Role;
 
 fn crossed(lower: Amount, upper: Bound) -> bool
     ensures { result ≡ are_crossed lower upper }

@@ -10,10 +10,10 @@ ghost use Rattle.nf_network.specs.NodePass.{IsTaken, name_faults_now, row_faults
 ghost use Rattle.nf_network.specs.Rows.{node_row};
 
 use crate::nodes::{Nodes, no_memory};
-use crate::reading::read_node_row;
+use crate::row_cells::read_node_row;
 use nf_cells::{Cell, Names};
+use nf_program::Role;
 use nf_roles::{CellFault, DataKind, Roles};
-use nf_stmt::Role;
 use nf_table::Table;
 
 /// Takes a row of NODEDATA, where the earlier rows name the nodes `seen`. Rows count from 1.

@@ -9,8 +9,8 @@ ghost use Rattle.nf_network.specs.Nodes.{NodeList, with_node, given_at};
 ghost use Rattle.nf_network.specs.Given.{IsEven, IsNamed, IsGiven};
 
 use nf_cells::{Cell, Names, Supply};
+use nf_program::Role;
 use nf_roles::{CellFault, DataKind};
-use nf_stmt::Role;
 use std::alloc::{AllocError, Global};
 use std::marker::Model;
 

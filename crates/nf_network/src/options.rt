@@ -1,6 +1,7 @@
 //! The options of PROC that speak of arcs and nodes.
 ghost use Rattle.std.specs.Prelude.{◌≡◌, ◌⊎◌, None, Some, IfSome, MatchResult};
 ghost use Rattle.nf_frac.specs.Amounts.{IsAmount};
+ghost use Rattle.nf_roles.specs.Faults.{out_of_memory};
 ghost use Rattle.nf_network.specs.Given.{IsEven};
 ghost use Rattle.nf_network.specs.Network.{bound_or_infinite, defaults_of};
 ghost use Rattle.nf_network.specs.NodeData.{negated};
@@ -11,8 +12,8 @@ use crate::rows::Defaults;
 use nf_cells::{Bound, Cell, Supply};
 use nf_frac::Amount;
 use nf_io::Text;
+use nf_program::{Bound as OptionBound, Name, ProcOptions, Role, SetName};
 use nf_roles::{DataFault, DataKind};
-use nf_stmt::{Bound as OptionBound, Name, ProcOptions, Role, SetName};
 use std::alloc::Global;
 
 /// What an arc has where its row does not say it.
@@ -49,7 +50,7 @@ pub(crate) fn give_options(
     requires demand { IfSome options.now.demand IsAmount }
     ensures { MatchResult result
         (λ _. (options_fault_now nodes.old options.now ≡ None) × (nodes.new ≡ options_given nodes.old options.now))
-        (λ e. (e.kind ≡ DataKind.NoMemory) ⊎ (options_fault_now nodes.old options.now ≡ Some e)) }
+        (λ e. (e ≡ out_of_memory) ⊎ (options_fault_now nodes.old options.now ≡ Some e)) }
 {
     match give_option(alloc, nodes, b"SOURCE", options.source, options.supply) {
         Ok(()) => {}
@@ -82,7 +83,7 @@ fn give_option(
     requires { IsEven nodes.old }
     ensures { MatchResult result
         (λ _. (option_fault_now nodes.old column.now named amount ≡ None) × (nodes.new ≡ option_given nodes.old named amount))
-        (λ e. (e.kind ≡ DataKind.NoMemory) ⊎ (option_fault_now nodes.old column.now named amount ≡ Some e)) }
+        (λ e. (e ≡ out_of_memory) ⊎ (option_fault_now nodes.old column.now named amount ≡ Some e)) }
 {
     let Some(name) = named else {
         return Ok(());
@@ -102,7 +103,7 @@ fn give_option(
 
 // A fault of an option, which stands in row 0 of PROC.
 fn option_fault(alloc: Global, column: &[u8], kind: DataKind) -> DataFault
-    ensures { (result.kind ≡ DataKind.NoMemory) ⊎ (result ≡ record { set = SetName.Proc; row = 0; column = column.now; kind = kind }) }
+    ensures { (result ≡ out_of_memory) ⊎ (result ≡ record { set = SetName.Proc; row = 0; column = column.now; kind = kind }) }
 {
     match Text::from_slice(alloc, column) {
         Ok(column) => DataFault {
@@ -111,6 +112,6 @@ fn option_fault(alloc: Global, column: &[u8], kind: DataKind) -> DataFault
             column,
             kind,
         },
-        Err(_) => DataFault::no_memory(alloc, SetName::Proc),
+        Err(_) => DataFault::no_memory(alloc),
     }
 }

@@ -15,12 +15,12 @@ ghost use Rattle.nf_network.specs.Rows.{arc_row_now};
 use crate::figures::read_figures;
 use crate::keys::ArcKeys;
 use crate::nodes::{Nodes, no_memory};
-use crate::reading::read_arc_row;
 use crate::repeats::first_repeat;
+use crate::row_cells::read_arc_row;
 use crate::rows::{ArcRow, Defaults, Figures};
 use nf_cells::{Cell, Name};
+use nf_program::Role;
 use nf_roles::{CellFault, DataKind, Roles};
-use nf_stmt::Role;
 use nf_table::Table;
 use std::alloc::{AllocError, Global};
 

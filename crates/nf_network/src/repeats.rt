@@ -5,7 +5,7 @@ ghost use Rattle.nf_network.specs.Repeats.{AreShared, IsFirstRepeat, place_of_en
 
 use crate::key_set::KeySet;
 use crate::keys::ArcKeys;
-use crate::places::PlaceSet;
+use nf_bits::BitSet;
 use nf_cells::Name;
 use std::alloc::{AllocError, Global};
 
@@ -24,6 +24,21 @@ pub(crate) fn first_repeat(alloc: Global, keys: &ArcKeys) -> Result<Option<usize
 {
     let places = keys.len().saturating_mul(PLACES_PER_ARC).saturating_add(1);
     let shared = shared_places(alloc, keys, places)?;
+    first_repeat_among(alloc, keys, places, &shared)
+}
+
+// The same, where these places are those that several arcs have.
+fn first_repeat_among(
+    alloc: Global,
+    keys: &ArcKeys,
+    places: usize,
+    shared: &BitSet,
+) -> Result<Option<usize>, AllocError>
+    requires some { 0 < places }
+    requires room { places / 64 < length shared.now }
+    requires shared { AreShared shared.now places keys.now }
+    ensures { IfOk result (IsFirstRepeat keys.now) }
+{
     let mut seen = KeySet::new(alloc);
     for i in 0..keys.len() {
         let (tail, head) = keys.ends(i);
@@ -47,13 +62,13 @@ fn place(tail: usize, head: usize, places: usize) -> usize
 }
 
 // The places that several arcs have.
-fn shared_places(alloc: Global, keys: &ArcKeys, places: usize) -> Result<PlaceSet, AllocError>
+fn shared_places(alloc: Global, keys: &ArcKeys, places: usize) -> Result<BitSet, AllocError>
     requires { 0 < places }
-    ensures len { IfOk result (λ s. places / 64 < length s.words.items) }
-    ensures shared { IfOk result (λ s. AreShared s.words.items places keys.now) }
+    ensures len { IfOk result (λ s. places / 64 < length s) }
+    ensures shared { IfOk result (λ s. AreShared s places keys.now) }
 {
-    let mut taken = PlaceSet::new(alloc, places)?;
-    let mut shared = PlaceSet::new(alloc, places)?;
+    let mut taken = BitSet::new(alloc, places)?;
+    let mut shared = BitSet::new(alloc, places)?;
     for i in 0..keys.len() {
         let (tail, head) = keys.ends(i);
         let at = place(tail, head, places);

@@ -4,3 +4,5 @@ pub mod Roles
 pub mod Named
 pub mod Assigned
 pub mod Kinds
+pub mod Faults
+pub mod Lookups

@@ -4,15 +4,17 @@ ghost use Rattle.std.specs.List.{find, list_any};
 ghost use Rattle.nf_roles.specs.First.{all_with, first_with};
 ghost use Rattle.nf_roles.specs.Roles.{HasColumnsBelow};
 ghost use Rattle.nf_roles.specs.Sets.{needed, same_role};
-ghost use Rattle.nf_roles.specs.Assigned.{columns_due, has_two, header_of, is_lacked, is_listed, is_missing, is_second, is_variable, may_lack, reserved_column, role_column, roles_by, roles_due};
+ghost use Rattle.nf_roles.specs.Assigned.{columns_due, has_two, header_of, is_lacked, is_listed, is_missing, is_second, has_column, has_statement, is_variable, may_lack, reserved_column, role_column, roles_by, roles_due};
+ghost use Rattle.nf_roles.specs.Lookups.{cells_or_none};
 
 use crate::columns::{SetKind, is_same};
 use crate::fault::RoleFault;
-use crate::named::{NamedColumn, has_statement, is_listed, is_named, named_columns, times_named};
+use crate::found::TableColumns;
+use crate::named::{NamedColumn, NamedColumns, has_statement};
 use crate::reserved::{is_reserved, is_reserved_for};
 use crate::roles::Roles;
 use nf_io::Text;
-use nf_stmt::{Program, Role};
+use nf_program::{Program, Role};
 use nf_table::Table;
 use smallvec::SmallVec;
 use std::alloc::{AllocError, Global};
@@ -37,14 +39,14 @@ pub fn assign(
     ensures answer { (result ≡ Err RoleFault.NoMemory) ⊎ (result ≡ roles_due set table.now.header (header_of cons.entry) program.now.roles) }
     ensures columns { IfOk result (λ r. HasColumnsBelow r (length table.now.header)) }
 {
-    let names = named_columns(alloc, program, set)?;
+    let names = NamedColumns::of(alloc, program, set)?;
     assign_named(alloc, &names, table, set, cons)
 }
 
 // The roles by the columns that statements of this set name.
 fn assign_named(
     alloc: Global,
-    names: &[NamedColumn],
+    names: &NamedColumns,
     table: &Table,
     set: SetKind,
     cons: Option<&Table>,
@@ -52,13 +54,13 @@ fn assign_named(
     ensures answer { (result ≡ Err RoleFault.NoMemory) ⊎ (result ≡ roles_by set table.now.header (header_of cons.entry) names.now) }
     ensures columns { IfOk result (λ r. HasColumnsBelow r (length table.now.header)) }
 {
-    if let Some(lacked) = first_lacked(set, table, cons, names) {
+    if let Some(lacked) = first_lacked(alloc, set, table, cons, names)? {
         return Err(RoleFault::NoColumn(Text::from_slice(alloc, lacked.name.bytes())?));
     }
-    if let Some(column) = first_with_two(set, table, names) {
+    if let Some(column) = first_with_two(alloc, set, table, names)? {
         return Err(RoleFault::TwoRoles(Text::from_slice(alloc, table.cell(0, column))?));
     }
-    if let Some(role) = first_missing(set, table, names) {
+    if let Some(role) = first_missing(set, table, names.items()) {
         return Err(RoleFault::MissingRole(role));
     }
     let roles = roles_of_columns(alloc, set, table, names)?;
@@ -67,63 +69,124 @@ fn assign_named(
 
 // The first named column that is lacked.
 fn first_lacked(
+    alloc: Global,
     set: SetKind,
     table: &Table,
     cons: Option<&Table>,
+    names: &NamedColumns,
+) -> Result<Option<NamedColumn>, AllocError>
+    ensures { IfOk result (λ n. n ≡ find (is_lacked set table.now.header (header_of cons.entry)) names.now) }
+{
+    let here = names.in_table(alloc, table)?;
+    match cons {
+        Some(cons) => {
+            let there = names.in_table(alloc, cons)?;
+            first_lacked_of(alloc, set, &here, Some(&there), names.items())
+        }
+        None => first_lacked_of(alloc, set, &here, None, names.items()),
+    }
+}
+
+// The first of these named columns that is lacked.
+fn first_lacked_of(
+    alloc: Global,
+    set: SetKind,
+    table: &TableColumns<'_>,
+    cons: Option<&TableColumns<'_>>,
     names: &[NamedColumn],
-) -> Option<NamedColumn>
-    ensures { result ≡ find (is_lacked set table.now.header (header_of cons.entry)) names.now }
+) -> Result<Option<NamedColumn>, AllocError>
+    ensures { IfOk result (λ n. n ≡ find (is_lacked set table.now (cells_or_none cons.entry)) names.now) }
 {
     for named in names {
-        if is_lacked(set, table, cons, named) {
-            return Some(*named);
+        if is_lacked(alloc, set, table, cons, named)? {
+            return Ok(Some(*named));
         }
     }
-    None
+    Ok(None)
 }
 
 // Whether the table has no such column, and that is a fault.
-fn is_lacked(set: SetKind, table: &Table, cons: Option<&Table>, named: &NamedColumn) -> bool
-    ensures { result ≡ is_lacked set table.now.header (header_of cons.entry) named.now }
+fn is_lacked(
+    alloc: Global,
+    set: SetKind,
+    table: &TableColumns<'_>,
+    cons: Option<&TableColumns<'_>>,
+    named: &NamedColumn,
+) -> Result<bool, AllocError>
+    ensures { IfOk result (λ b. b ≡ is_lacked set table.now (cells_or_none cons.entry) named.now) }
 {
-    table.column(named.name.bytes()).is_none() && !may_lack(set, cons, named)
+    let column = table.column(alloc, named.name.bytes())?;
+    let may_lack = may_lack(alloc, set, cons, named)?;
+    Ok(column.is_none() && !may_lack)
 }
 
 // Whether it is no fault that the table has no such column.
-fn may_lack(set: SetKind, cons: Option<&Table>, named: &NamedColumn) -> bool
-    ensures { result ≡ may_lack set (header_of cons.entry) named.now }
+fn may_lack(
+    alloc: Global,
+    set: SetKind,
+    cons: Option<&TableColumns<'_>>,
+    named: &NamedColumn,
+) -> Result<bool, AllocError>
+    ensures { IfOk result (λ b. b ≡ may_lack set (cells_or_none cons.entry) named.now) }
 {
     match set {
-        SetKind::Arcs => match cons {
-            Some(cons) => {
-                is_same(named.role, Role::Id) && cons.column(named.name.bytes()).is_some()
+        SetKind::Arcs => {
+            if is_same(named.role, Role::Id) {
+                has_column(alloc, cons, named)
+            } else {
+                Ok(false)
             }
-            None => false,
-        },
-        SetKind::Nodes => false,
-        SetKind::Dense | SetKind::Sparse => is_same(named.role, Role::Id),
+        }
+        SetKind::Nodes => Ok(false),
+        SetKind::Dense | SetKind::Sparse => Ok(is_same(named.role, Role::Id)),
     }
+}
+
+// Whether a table that may be absent has such a column.
+fn has_column(
+    alloc: Global,
+    cons: Option<&TableColumns<'_>>,
+    named: &NamedColumn,
+) -> Result<bool, AllocError>
+    ensures { IfOk result (λ b. b ≡ has_column (cells_or_none cons.entry) named.now.name) }
+{
+    let Some(cons) = cons else {
+        return Ok(false);
+    };
+    let column = cons.column(alloc, named.name.bytes())?;
+    Ok(column.is_some())
 }
 
 // The first column from the left with two roles.
-fn first_with_two(set: SetKind, table: &Table, names: &[NamedColumn]) -> Option<u32>
-    ensures first { result ≡ first_with (length table.now.header) (has_two set table.now.header names.now) }
-    ensures within { IfSome result (λ c. c < length table.now.header) }
+fn first_with_two(
+    alloc: Global,
+    set: SetKind,
+    table: &Table,
+    names: &NamedColumns,
+) -> Result<Option<u32>, AllocError>
+    ensures first { IfOk result (λ f. f ≡ first_with (length table.now.header) (has_two set table.now.header names.now)) }
+    ensures within { IfOk result (λ f. IfSome f (λ c. c < length table.now.header)) }
 {
     for column in 0..table.width() {
-        if has_two(set, table, names, column) {
-            return Some(column);
+        if has_two(alloc, set, table, names, column)? {
+            return Ok(Some(column));
         }
     }
-    None
+    Ok(None)
 }
 
-fn has_two(set: SetKind, table: &Table, names: &[NamedColumn], column: u32) -> bool
+fn has_two(
+    alloc: Global,
+    set: SetKind,
+    table: &Table,
+    names: &NamedColumns,
+    column: u32,
+) -> Result<bool, AllocError>
     requires { column < length table.now.header }
-    ensures { result ≡ has_two set table.now.header names.now column }
+    ensures { IfOk result (λ b. b ≡ has_two set table.now.header names.now column) }
 {
-    1 < times_named(names, table.cell(0, column))
-        || is_second_of_any(table, names, column, set.roles())
+    let uses = names.uses(alloc, table.cell(0, column))?;
+    Ok(uses.is_twice || is_second_of_any(table, names.items(), column, set.roles()))
 }
 
 // Whether a column is the second reserved one of any of these roles.
@@ -144,7 +207,7 @@ fn is_second(table: &Table, names: &[NamedColumn], column: u32, role: Role) -> b
     requires { column < length table.now.header }
     ensures { result ≡ is_second table.now.header names.now column role }
 {
-    if has_statement(names, role) || !is_reserved_for(role, table.cell(0, column)) {
+    if !is_reserved_for(role, table.cell(0, column)) || has_statement(names, role) {
         return false;
     }
     match reserved_column(table, role) {
@@ -209,14 +272,14 @@ fn roles_of_columns(
     alloc: Global,
     set: SetKind,
     table: &Table,
-    names: &[NamedColumn],
+    names: &NamedColumns,
 ) -> Result<Roles, AllocError>
     ensures roles { IfOk result (λ r. r ≡ columns_due set table.now.header names.now) }
     ensures few { IfOk result (λ r. length r.ids < 2 ^ 32) }
 {
     let variables = variables(alloc, set, table, names)?;
     let ids = ids(alloc, table, names)?;
-    let of = |role: Role| column_of(set, table, names, role);
+    let of = |role: Role| column_of(set, table, names.items(), role);
     Ok(Roles::from_columns(
         [
             of(Role::TailNode),
@@ -247,13 +310,14 @@ fn variables(
     alloc: Global,
     set: SetKind,
     table: &Table,
-    names: &[NamedColumn],
+    names: &NamedColumns,
 ) -> Result<SmallVec<u32, 8>, AllocError>
     ensures { IfOk result (λ v. v.items ≡ all_with (length table.now.header) (λ c. is_variable set names.now (get_or table.now.header c []))) }
 {
+    let has_var = has_statement(names.items(), Role::Var);
     let mut variables = SmallVec::new(alloc);
     for column in 0..table.width() {
-        let is_there = is_variable(set, names, table.cell(0, column));
+        let is_there = is_variable(alloc, set, names, has_var, table.cell(0, column))?;
         push_if(&mut variables, is_there, column)?;
     }
     Ok(variables)
@@ -269,33 +333,42 @@ fn push_if(columns: &mut SmallVec<u32, 8>, is_there: bool, column: u32) -> Resul
     Ok(())
 }
 
-fn is_variable(set: SetKind, names: &[NamedColumn], cell: &[u8]) -> bool
-    ensures { result ≡ is_variable set names.now cell.now }
+// Whether the column with this cell is a variable. Whether VAR has a statement is known.
+fn is_variable(
+    alloc: Global,
+    set: SetKind,
+    names: &NamedColumns,
+    has_var: bool,
+    cell: &[u8],
+) -> Result<bool, AllocError>
+    requires { has_var ≡ has_statement names.now Role.Var }
+    ensures { IfOk result (λ b. b ≡ is_variable set names.now cell.now) }
 {
     match set {
-        SetKind::Arcs | SetKind::Nodes | SetKind::Sparse => false,
+        SetKind::Arcs | SetKind::Nodes | SetKind::Sparse => Ok(false),
         SetKind::Dense => {
             if is_reserved(cell) {
-                return false;
+                return Ok(false);
             }
-            if has_statement(names, Role::Var) {
-                is_listed(names, Role::Var, cell)
+            let uses = names.uses(alloc, cell)?;
+            if has_var {
+                Ok(uses.is_variable)
             } else {
-                !is_named(names, cell)
+                Ok(!uses.is_named)
             }
         }
     }
 }
 
 // The ID columns, from the left.
-fn ids(alloc: Global, table: &Table, names: &[NamedColumn]) -> Result<SmallVec<u32, 8>, AllocError>
+fn ids(alloc: Global, table: &Table, names: &NamedColumns) -> Result<SmallVec<u32, 8>, AllocError>
     ensures ids { IfOk result (λ v. v.items ≡ all_with (length table.now.header) (λ c. is_listed names.now Role.Id (get_or table.now.header c []))) }
     ensures few { IfOk result (λ v. length v.items < 2 ^ 32) }
 {
     let mut ids = SmallVec::new(alloc);
     for column in 0..table.width() {
-        let is_there = is_listed(names, Role::Id, table.cell(0, column));
-        push_if(&mut ids, is_there, column)?;
+        let uses = names.uses(alloc, table.cell(0, column))?;
+        push_if(&mut ids, uses.is_id, column)?;
     }
     Ok(ids)
 }

@@ -4,7 +4,7 @@ ghost use Rattle.nf_program.specs.Programs.{role_number};
 ghost use Rattle.nf_roles.specs.Sets.{has_role, needed, roles_of, same_role};
 ghost use Rattle.nf_roles.specs.Assigned.{is_of};
 
-use nf_stmt::Role;
+use nf_program::Role;
 
 /// Which data set the roles are for. CONDATA is dense, or sparse with SPARSECONDATA.
 #[derive(Clone, Copy, Debug, PartialEq, Eq)]

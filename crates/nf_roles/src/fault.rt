@@ -1,32 +1,28 @@
 //! Faults of roles and of data.
 ghost use Rattle.std.specs.Prelude.{◌≡◌, ◌⊎◌, Some, length};
+ghost use Rattle.nf_roles.specs.Faults.{out_of_memory};
 ghost use Rattle.nf_roles.specs.Kinds.{data_word};
 ghost use Rattle.nf_roles.specs.Roles.{HasColumnsBelow, column_text};
 
 use crate::roles::Roles;
 use nf_io::Text;
-use nf_stmt::{Role, SetName};
+use nf_program::{Role, SetName};
 use nf_table::Table;
 use std::alloc::{AllocError, Global};
 use std::fmt;
-use thiserror::Error;
 
 /// Why the roles of a table's columns cannot be told. The variants stand in the order in which they are looked for.
-#[derive(Debug, Drop, Error)]
+#[derive(Debug, Drop)]
 pub enum RoleFault {
     /// A statement names this column, as the program has it, and the table lacks it; for a name of an ID statement, both
     /// ARCDATA and CONDATA do, and it is told with ARCDATA. Of several names it is the first in the program.
-    #[error("NoColumn")]
     NoColumn(Text),
     /// Statements of this set name this column, as the header has it, more than once, or it is the second reserved column
     /// of a role without a statement. Of several columns it is the first from the left.
-    #[error("TwoRoles")]
     TwoRoles(Text),
     /// This role is needed and has no column.
-    #[error("MissingRole")]
     MissingRole(Role),
     /// There was no memory for the roles.
-    #[error("NoMemory")]
     NoMemory,
 }
 
@@ -113,7 +109,8 @@ pub struct CellFault {
 }
 
 /// The first fault of the data: the data set, the row from 1 or 0 for the header and for options, the column as the
-/// header has it or else the role's first reserved name, and the kind. After `NoMemory` the other fields say nothing.
+/// header has it or else the role's first reserved name, and the kind. With `NoMemory` the other fields say nothing: they
+/// are the first data set, 0 and empty.
 #[derive(Debug, Drop)]
 pub struct DataFault {
     pub set: SetName,
@@ -123,8 +120,8 @@ pub struct DataFault {
 }
 
 impl DataFault {
-    /// A fault of a row of a table whose columns have these roles. Its kind is `NoMemory` where there is no memory for the
-    /// name of its column.
+    /// A fault of a row of a table whose columns have these roles. It is `NoMemory` if the fault is, or if there is no
+    /// memory for the name of its column.
     pub fn in_row(
         alloc: Global,
         set: SetName,
@@ -134,9 +131,13 @@ impl DataFault {
         fault: CellFault,
     ) -> DataFault
         requires columns { HasColumnsBelow roles.now (length table.now.header) }
-        ensures fault { (result.kind ≡ DataKind.NoMemory)
+        ensures fault { (result ≡ out_of_memory)
             ⊎ (result ≡ record { set = set; row = row; column = column_text roles.now table.now.header fault.role; kind = fault.kind }) }
+        ensures memory { fault.kind ≡ DataKind.NoMemory → result ≡ out_of_memory }
     {
+        if fault.kind == DataKind::NoMemory {
+            return DataFault::no_memory(alloc);
+        }
         match Text::from_slice(alloc, roles.column_text(table, fault.role)) {
             Ok(column) => DataFault {
                 set,
@@ -144,16 +145,17 @@ impl DataFault {
                 column,
                 kind: fault.kind,
             },
-            Err(_) => DataFault::no_memory(alloc, set),
+            Err(_) => DataFault::no_memory(alloc),
         }
     }
 
     /// There was no memory for the problem of a data set.
-    pub fn no_memory(alloc: Global, set: SetName) -> DataFault
+    pub fn no_memory(alloc: Global) -> DataFault
+        ensures fault { result ≡ out_of_memory }
         ensures kind { result.kind ≡ DataKind.NoMemory }
     {
         DataFault {
-            set,
+            set: SetName::Arcdata,
             row: 0,
             column: Text::new(alloc),
             kind: DataKind::NoMemory,

@@ -5,9 +5,11 @@
 mod assigned;
 mod columns;
 mod fault;
+mod found;
 mod named;
 mod reserved;
 mod roles;
+mod uses;
 
 pub use assigned::assign;
 pub use columns::SetKind;

@@ -1,13 +1,16 @@
 //! The columns that role statements name.
-ghost use Rattle.std.specs.Prelude.{◌≡◌, ◌++◌, IfOk, OnOk, length};
-ghost use Rattle.std.specs.List.{list_any};
-ghost use Rattle.nf_table.specs.Grid.{same_name};
+ghost use Rattle.std.specs.Prelude.{◌≡◌, ◌++◌, IfOk, OnOk};
 ghost use Rattle.nf_roles.specs.Named.{columns_named};
-ghost use Rattle.nf_roles.specs.Assigned.{has_statement, is_listed, named, named_by, names_of};
+ghost use Rattle.nf_roles.specs.Assigned.{has_statement, named, named_by};
+ghost use Rattle.nf_roles.specs.Lookups.{uses_of};
 
 use crate::columns::{SetKind, is_same};
-use nf_stmt::{Name, Program, Role};
+use crate::found::TableColumns;
+use crate::uses::{Uses, UsesByName};
+use nf_program::{Name, Program, Role};
+use nf_table::Table;
 use std::alloc::{AllocError, Global};
+use std::marker::Model;
 
 /// A column that a statement names, and the statement's role.
 #[derive(Clone, Copy)]
@@ -16,8 +19,67 @@ pub struct NamedColumn {
     pub(crate) name: Name,
 }
 
-/// The columns that the statements of a set name, in the order of the program.
-pub(crate) fn named_columns(
+/// The columns that the statements of a set name, in the order of the program, and what they say of each name.
+#[derive(Drop)]
+pub(crate) struct NamedColumns {
+    items: Vec<NamedColumn>,
+    uses: UsesByName,
+}
+
+impl Model for NamedColumns {
+    ghost use Rattle.std.specs.Prelude.{List};
+    ghost use Rattle.nf_roles.specs.declared.named.NamedColumn.{NamedColumn};
+    ghost use Rattle.nf_roles.specs.Lookups.{AreUsesOf};
+
+    ghost Value = { List NamedColumn };
+
+    ghost view = { λ n. n.items.items };
+
+    ghost invariant = { λ n. AreUsesOf n.uses n.items.items };
+}
+
+impl NamedColumns {
+    /// The columns that the statements of a set name.
+    pub(crate) fn of(
+        alloc: Global,
+        program: &Program,
+        set: SetKind,
+    ) -> Result<NamedColumns, AllocError>
+        ensures { IfOk result (λ n. n ≡ named set program.now.roles) }
+    {
+        let items = named_columns(alloc, program, set)?;
+        let uses = UsesByName::of(alloc, &items)?;
+        Ok(NamedColumns { items, uses })
+    }
+
+    /// They, in the order of the program.
+    pub(crate) fn items(&self) -> &[NamedColumn]
+        ensures { result.now ≡ self.now }
+    {
+        &self.items
+    }
+
+    /// What statements say of the column with this cell in the header.
+    pub(crate) fn uses(&self, alloc: Global, cell: &[u8]) -> Result<Uses, AllocError>
+        ensures { IfOk result (λ u. u ≡ uses_of self.now cell.now) }
+    {
+        self.uses.of_cell(alloc, cell)
+    }
+
+    /// A table with the columns of it that statements name.
+    pub(crate) fn in_table<'a>(
+        &'a self,
+        alloc: Global,
+        table: &'a Table,
+    ) -> Result<TableColumns<'a>, AllocError>
+        ensures { IfOk result (λ c. c ≡ table.now.header) }
+    {
+        TableColumns::of(alloc, &self.uses, table)
+    }
+}
+
+// The columns that the statements of a set name, in the order of the program.
+fn named_columns(
     alloc: Global,
     program: &Program,
     set: SetKind,
@@ -64,30 +126,4 @@ pub(crate) fn has_statement(names: &[NamedColumn], role: Role) -> bool
     ensures { result ≡ has_statement names.now role }
 {
     names.iter().any(|n| is_same(role, n.role))
-}
-
-/// Whether a statement of this role names the column with this cell in the header.
-pub(crate) fn is_listed(names: &[NamedColumn], role: Role, cell: &[u8]) -> bool
-    ensures { result ≡ is_listed names.now role cell.now }
-{
-    names.iter().any(|n| is_same(role, n.role) && n.name.bytes().eq_ignore_ascii_case(cell))
-}
-
-/// Whether any statement names the column with this cell in the header.
-pub(crate) fn is_named(names: &[NamedColumn], cell: &[u8]) -> bool
-    ensures { result ≡ list_any (λ n. same_name n.name cell.now) names.now }
-{
-    names
-        .iter()
-        .any(|n| n.name.bytes().eq_ignore_ascii_case(cell))
-}
-
-/// How often statements name the column with this cell in the header.
-pub(crate) fn times_named(names: &[NamedColumn], cell: &[u8]) -> usize
-    ensures { result ≡ length (names_of names.now cell.now) }
-{
-    names
-        .iter()
-        .filter(|n| n.name.bytes().eq_ignore_ascii_case(cell))
-        .count()
 }

@@ -3,7 +3,7 @@ ghost use Rattle.std.specs.Prelude.{◌≡◌, ◌||◌};
 ghost use Rattle.std.specs.Str.{str_eq_ignore_ascii_case};
 ghost use Rattle.nf_roles.specs.Sets.{first_reserved, is_reserved, is_reserved_for};
 
-use nf_stmt::Role;
+use nf_program::Role;
 
 /// Whether a cell of a header is a reserved name of a role, without regard to ASCII case.
 pub(crate) fn is_reserved_for(role: Role, cell: &[u8]) -> bool

@@ -4,7 +4,7 @@ ghost use Rattle.nf_roles.specs.Roles.{AreFromLeft, HasColumnsBelow, RoleColumns
 
 use crate::columns::number;
 use crate::reserved::first_reserved;
-use nf_stmt::Role;
+use nf_program::Role;
 use nf_table::Table;
 use smallvec::SmallVec;
 use std::marker::Model;

@@ -6,3 +6,4 @@ pub mod RecordFacts
 pub mod RowFacts
 pub mod WriteFacts
 pub mod MakeFacts
+pub mod SharedFacts

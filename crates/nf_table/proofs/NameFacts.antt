@@ -63,7 +63,7 @@ pub lower-more : (fs : Cells) (i : ℕ) (x : List ℕ) → field_at fs i ≡ Som
     → map str_to_ascii_lowercase (take i fs) ++ str_to_ascii_lowercase x ∷ [] ≡ map str_to_ascii_lowercase (take (i + 1) fs)
 lower-more fs i x h = rw (take-cell fs i x h, map-append str_to_ascii_lowercase (take i fs) (x ∷ [])) refl
 
-drop-cell : (fs : Cells) (i : ℕ) (x : List ℕ) → field_at fs i ≡ Some x → drop i fs ≡ x ∷ drop (i + 1) fs
+pub drop-cell : (fs : Cells) (i : ℕ) (x : List ℕ) → field_at fs i ≡ Some x → drop i fs ≡ x ∷ drop (i + 1) fs
 unfolding field_at
 drop-cell [] i x h = cc h
 drop-cell (f ∷ fs) zero x h = let same : f ≡ x = cc h in rw same refl

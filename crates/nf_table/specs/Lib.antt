@@ -7,3 +7,4 @@ pub mod Inside
 pub mod Progress
 pub mod Making
 pub mod Writing
+pub mod Shared

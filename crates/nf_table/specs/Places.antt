@@ -1,4 +1,4 @@
--- Where the reader of a text stands, and what it meets next.
+-- For a proof alone: where the reader of a text stands, and what it meets next.
 -- The promises of `Records` rest on it, and by them that of `read_table`.
 use Rattle.std.specs.Prelude.{◌≡◌, ◌≢◌, ◌+◌, ℕ, List, [], Bool, Option, Some, None, length, false, IfSome}
 use Rattle.csv.specs.Machine.{Read, next_record}

@@ -1,4 +1,4 @@
--- How far a loop over the rows of a text has come.
+-- For a proof alone: how far a loop over the rows of a text has come.
 -- The promise of `read_rows`, and by it that of `read_table`, rests on it.
 use Rattle.std.specs.Prelude.{◌≡◌, ◌+◌, ◌*◌, ◌<◌, ◌≤◌, ℕ, List, [], Ok, Some, None, false, true, length, take, drop}
 use Rattle.std.specs.List.{list_all}

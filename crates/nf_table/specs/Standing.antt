@@ -1,4 +1,4 @@
--- What `Records` keeps in its fields, and the place in the text that a clause sees of them.
+-- For a proof alone: what `Records` keeps in its fields, and the place in the text that a clause sees of them.
 -- The promises of the methods of `Records` rest on it.
 use Rattle.std.specs.Prelude.{◌≡◌, ℕ, List, [], Some, unwrap_or, false}
 use Rattle.std.specs.Borrow.{Bor}

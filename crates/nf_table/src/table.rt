@@ -13,28 +13,21 @@ use csv::ByteRecord;
 use nf_io::Text;
 use std::alloc::{AllocError, Global};
 use std::marker::Model;
-use thiserror::Error;
 
 /// Why a text is no table. Row 0 is the header.
-#[derive(Debug, Drop, Error)]
+#[derive(Debug, Drop)]
 pub enum TableFault {
     /// The text has more than 67,108,864 bytes.
-    #[error("TooLong")]
     TooLong,
     /// The text has no record.
-    #[error("NoHeader")]
     NoHeader,
     /// This row has not as many cells as the header.
-    #[error("RowLength")]
     RowLength(u32),
     /// A cell of this row is not UTF-8.
-    #[error("NotText")]
     NotText(u32),
     /// This cell of the header equals an earlier one without regard to ASCII case.
-    #[error("RepeatedColumn")]
     RepeatedColumn(Text),
     /// There was no memory for the table.
-    #[error("NoMemory")]
     NoMemory,
 }
 

@@ -57,15 +57,13 @@ fn keeps_data_sets_in_a_folder(rt: HostRuntime) -> Result<(), Fail> {
         library.store("library/folder", b"lost"),
         Err(PutFault::Failed)
     );
-    assert_eq!(rt; fs::exists(&rt, "library/folder.csv.part")?, false);
-    // A folder where the store writes first: it cannot begin.
-    fs::create_dir(&rt, "library/arcs.csv.part")?;
-    assert_eq!(rt;
-        library.store("library/arcs", b"lost"),
-        Err(PutFault::Failed)
-    );
+    assert_eq!(rt; fs::exists(&rt, "library/folder.csv.part1")?, false);
+    // A folder under the name that the store tries first: it writes under the next one.
+    fs::create_dir(&rt, "library/arcs.csv.part1")?;
+    assert_eq!(rt; library.store("library/arcs", b"third"), Ok(()));
+    assert_eq!(rt; fs::exists(&rt, "library/arcs.csv.part2")?, false);
     let fetches = [
-        ("library/arcs", Ok(()), b"others".as_slice()),
+        ("library/arcs", Ok(()), b"third".as_slice()),
         ("library/nodes", Err(FetchFault::Absent), b""),
         ("library/folder", Err(FetchFault::Failed), b""),
     ];

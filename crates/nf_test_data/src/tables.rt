@@ -37,7 +37,9 @@ fn shown_fault(alloc: Global, fault: &TableFault) -> Result<String, AllocError> 
             shown.push_str(str::from_utf8(name.bytes()).unwrap_or("?"))?;
             Ok(shown)
         }
-        other => format!(in alloc; "{other}"),
+        TableFault::TooLong => String::from_str(alloc, "TooLong"),
+        TableFault::NoHeader => String::from_str(alloc, "NoHeader"),
+        TableFault::NoMemory => String::from_str(alloc, "NoMemory"),
     }
 }
 

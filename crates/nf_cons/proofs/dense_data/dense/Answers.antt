@@ -13,7 +13,7 @@ read_dense-requires-clause-arcs c =
 
 pub returns-in-Err-clause-answer : goal.returns-in-Err-clause-answer
 returns-in-Err-clause-answer c =
-    dense-told c.args.options.now (record { program = c.args.builder.now; labels = c.args.labels.now }) c.args.roles.now c.args.table.now c.in-Err.fault c.told.result c.in-Err.ensures c.told.ensures
+    dense-told c.args.options.now (record { program = c.args.builder.now; labels = c.args.labels.now }) c.args.roles.now c.args.table.now c.in-Err.fault c.told.result c.in-Err.ensures c.told.ensures.answer c.told.ensures.memory
 
 pub add_constraints-requires-clause-plain : goal.add_constraints-requires-clause-plain
 add_constraints-requires-clause-plain c = plain-of c.args.options.now (record { program = c.args.builder.now; labels = c.args.labels.now }) c.requires.network

@@ -1,13 +1,18 @@
-use Rattle.std.proofs.Common.{◌++◌, ◌∙◌, length, map, ap, arith}
+use Rattle.std.proofs.Common.{◌++◌, ◌∙◌, length, map, pos, ap, arith}
 use Rattle.std.proofs.lemmas.List.{length-append}
 use Rattle.std.proofs.lemmas.List.Elements.{All-append}
 use Rattle.std.specs.List.{All}
 use Rattle.nf_network.specs.Excess.{joined_below}
 use Rattle.nf_network.proofs.PassFacts.{map-length}
-use Rattle.nf_cons.specs.Constrained.{nonarc_column_at, side_row, with_rows}
+use Rattle.nf_cons.specs.declared.taken.Coefficient.{Coefficient}
+use Rattle.nf_cons.specs.Constrained.{nonarc_column_at, side_row, with_columns, with_rows}
 use Rattle.nf_cons.specs.Making.{HasEntriesBelow, before}
+use Rattle.nf_cons.proofs.FilledFacts.{filled}
 use Rattle.nf_cons.proofs.MakingFacts.{before-least, before-most, before-some, nonarcs-empty, nonarcs-length, same-coefs}
 use Rattle.nf_cons.proofs.making.add_constraints.Goals as goal
+
+no_coefficient : Coefficient
+no_coefficient = record { variable = 0; constraint = 0; value = record { thousandths = pos 0 } }
 
 pub add_sides-requires-clause-few_columns : goal.add_sides-requires-clause-few_columns
 add_sides-requires-clause-few_columns c =
@@ -83,6 +88,14 @@ returns-clause-program c =
     let rows = ap (λ p. length p.rows) c.in_ok-columns.ensures.columns in
     let first = c.in_ok-rows.ensures.before ∙ ap (λ n. before (length sides) 0 n) rows in
     let base = c.in_ok-rows.ensures.rows ∙ ap (λ p. with_rows p (map side_row sides)) c.in_ok-columns.ensures.columns in
+    let whole = with_rows (with_columns c.args.builder.now (joined_below (length v.nonarcs) (nonarc_column_at c.args.options.now v.arcs.count ls))) (map side_row sides) in
+    let size = length-append c.args.builder.now.columns (joined_below (length v.nonarcs) (nonarc_column_at c.args.options.now v.arcs.count ls)) in
+    let ones = nonarcs-length c.args.options.now v.arcs.count ls (length v.nonarcs) in
+    let all : All (HasEntriesBelow (length c.args.builder.now.rows)) (c.args.builder.now.columns ++ joined_below (length v.nonarcs) (nonarc_column_at c.args.options.now v.arcs.count ls)) =
+    All-append (HasEntriesBelow (length c.args.builder.now.rows)) c.args.builder.now.columns (joined_below (length v.nonarcs) (nonarc_column_at c.args.options.now v.arcs.count ls)) c.requires.plain.entries
+    (nonarcs-empty c.args.options.now v.arcs.count ls (length c.args.builder.now.rows) (length v.nonarcs)) in
     rw (← c.requires.arcs)
     ((rw (c.in_ok-columns.ensures.before, first, base) at c.in_ok-add_coefficients.ensures)
-    ∙ same-coefs v.arcs.count (length c.args.builder.now.columns) (length c.args.builder.now.rows) (length v.nonarcs) (length sides) _ ls.coefficients c.requires.ready.placed)
+    ∙ same-coefs v.arcs.count (length c.args.builder.now.columns) (length c.args.builder.now.rows) (length v.nonarcs) (length sides) whole ls.coefficients c.requires.ready.placed
+    ∙ filled v.arcs.count (length c.args.builder.now.columns) (length c.args.builder.now.rows) (length v.nonarcs) (length sides) whole ls.coefficients (omega (arith, c.requires.arcs, c.requires.plain.own_arcs))
+    (omega (arith, size, ones)) c.requires.ready.placed c.requires.ready.apart (λ some. all) no_coefficient)

@@ -8,4 +8,4 @@ returns-in-Err c =
     let v : c.index-variable.result.now ≡ get_or c.self.inside.numbers.items c.args.i 0 = c.index-variable.ensures ∙ get-same c.self.inside.numbers.items c.args.i _ 0 number in
     rw (c.in-Is.is, ← c.self.view_is)
     (cell-term-fault c.args.row_type c.self.inside.constraints.variables.arcs.count c.args.column (get_or c.self.inside.numbers.items c.args.i 0) c.self.inside.constraints.terms c.self.inside.count
-    c.in-Is.value c.in-Err.fault (rw (c.is_arc.ensures, v) at c.in-Err.ensures))
+    c.in-Is.value c.in-Err.fault (rw (c.is_arc.ensures, v) at c.in-Err.ensures.answer))
