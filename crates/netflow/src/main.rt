@@ -3,20 +3,8 @@
 //! its data.
 #![tactic(auto)]
 
-mod check;
-mod lines;
-mod problem;
-mod program;
-mod refusal;
-mod run;
-mod set_words;
-mod sets;
-mod status;
-mod top;
-mod words;
-
 use nf_io::{DirLibrary, ReadSource, WriteSink};
-use status::Status;
+use nf_top::{Status, netflow};
 use std::alloc::AllocError;
 use std::io::ErrorKind;
 use std::process::ExitCode;
@@ -44,7 +32,7 @@ fn main(rt: HostRuntime) -> ExitCode {
     let mut program = ReadSource::new(rt.reader());
     let mut library = DirLibrary::new(rt.alloc(), &rt);
     let mut listing = WriteSink::new(io::writer(&rt));
-    let status = top::netflow(
+    let status = netflow(
         rt.alloc(),
         words.as_slice(),
         &mut program,

@@ -5,9 +5,10 @@ ghost use Rattle.std.specs.Io.KnownBytes.{ReadConsumes, WriteAppends};
 ghost use Rattle.nf_io.specs.Causes.{HasCause, HasPutCause};
 
 use crate::{Failed, PutFault, Sink, Source};
+use std::io;
 use std::io::{ErrorKind, Read, Write};
 
-/// A source over any reader. Each read that fails is a fault, for whatever reason.
+/// A source over any reader. A read that a signal interrupts is tried again; each that fails otherwise is a fault.
 #[derive(Drop)]
 pub struct ReadSource<R> {
     inner: R,
@@ -36,7 +37,7 @@ impl<R: Read> Source for ReadSource<R> {
         ensures cause { HasCause self.old.faults self.new.faults result }
         ensures inner { ReadConsumes (R.remaining self.old.inner) (R.remaining self.new.inner) result buf.new }
     {
-        match self.inner.read(buf) {
+        match read_once(&mut self.inner, buf) {
             Ok(count) => Ok(count),
             Err(_) => {
                 self.faults = self.faults.saturating_add(1);
@@ -46,8 +47,24 @@ impl<R: Read> Source for ReadSource<R> {
     }
 }
 
-/// A sink over any writer, which is to keep no bytes back. Each write that fails, or takes nothing of a piece that is
-/// not empty, is a fault, unless it wants memory.
+// One read, tried again while a signal interrupts it.
+#[tactic(auto, using(crate::proofs::KnownFacts::keeps_same, crate::proofs::KnownFacts::keeps_on, crate::proofs::KnownFacts::keeps_consumes))]
+fn read_once<R: Read>(reader: &mut R, buf: &mut [u8]) -> io::Result<usize>
+    ensures bound { ReadsAtMost result buf.new }
+    ensures bytes { ReadConsumes (R.remaining reader.old) (R.remaining reader.new) result buf.new }
+{
+    for _ in 0..u64::MAX {
+        match reader.read(buf) {
+            Ok(count) => return Ok(count),
+            Err(e) if e.kind() == ErrorKind::Interrupted => {}
+            Err(e) => return Err(e),
+        }
+    }
+    Err(io::Error::from(ErrorKind::Interrupted))
+}
+
+/// A sink over any writer, which is to keep no bytes back. A write that a signal interrupts is tried again; each that fails
+/// otherwise, or takes nothing of a piece that is not empty, is a fault, unless it is out of memory.
 #[derive(Drop)]
 pub struct WriteSink<W> {
     inner: W,
@@ -77,7 +94,7 @@ impl<W: Write> Sink for WriteSink<W> {
         ensures cause { HasPutCause self.old.faults self.new.faults result }
         ensures inner { WriteAppends (W.contents self.old.inner) (W.contents self.new.inner) result piece.now }
     {
-        match self.inner.write(piece) {
+        match write_once(&mut self.inner, piece) {
             Ok(count) if count > 0 || piece.is_empty() => Ok(count),
             Err(e) if e.kind() == ErrorKind::OutOfMemory => Err(PutFault::NoMemory),
             _ => {
@@ -86,4 +103,20 @@ impl<W: Write> Sink for WriteSink<W> {
             }
         }
     }
+}
+
+// One write, tried again while a signal interrupts it.
+#[tactic(auto, using(crate::proofs::KnownFacts::keeps_same, crate::proofs::KnownFacts::keeps_on, crate::proofs::KnownFacts::keeps_appends))]
+fn write_once<W: Write>(writer: &mut W, piece: &[u8]) -> io::Result<usize>
+    ensures bound { WritesAtMost result piece.now }
+    ensures bytes { WriteAppends (W.contents writer.old) (W.contents writer.new) result piece.now }
+{
+    for _ in 0..u64::MAX {
+        match writer.write(piece) {
+            Ok(count) => return Ok(count),
+            Err(e) if e.kind() == ErrorKind::Interrupted => {}
+            Err(e) => return Err(e),
+        }
+    }
+    Err(io::Error::from(ErrorKind::Interrupted))
 }

@@ -1,5 +1,5 @@
 //! Calls that are numbered, some of which are to fail.
-ghost use Rattle.std.specs.Prelude.{true, ◌≡◌, ◌≤◌, IfOk};
+ghost use Rattle.std.specs.Prelude.{true, false, ◌≡◌, ◌≤◌, IfOk};
 ghost use Rattle.nf_io.specs.Calls.{CallCount, after_call, next_fails, none_fails, untouched};
 ghost use Rattle.nf_io.specs.Causes.{Rose};
 
@@ -38,6 +38,7 @@ impl Calls {
         ensures counted { self.new ≡ after_call self.old }
         ensures later { self.old.faults ≤ self.new.faults }
         ensures rose { result ≡ true → Rose self.old.faults self.new.faults }
+        ensures sound { result ≡ false → self.new.faults ≡ self.old.faults }
         ensures calm { none_fails self.old ≡ true → self.new.faults ≡ self.old.faults }
     {
         self.made = self.made.saturating_add(1);

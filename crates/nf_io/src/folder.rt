@@ -10,8 +10,10 @@ use std::{fs, io};
 
 /// The data sets of the folder in which the program was started: NAME lies in the file `NAME.csv`.
 ///
-/// A store writes the file `NAME.csv.part` and renames it over `NAME.csv`, so that a store that fails leaves the old
-/// bytes. No data set lies in a file of such a name.
+/// A store writes a file of its own and renames it over `NAME.csv`, so that a store that fails leaves the old bytes, and
+/// a reader sees the old bytes or the new ones, never a part. The file is made anew, as the first of `NAME.csv.part1`,
+/// `NAME.csv.part2`, .. that is not there: no existing file is opened and no link is followed, and what a concurrent or a
+/// killed run has made stays that run's. No data set lies in a file of such a name. The mode of the old file is kept.
 #[derive(Drop)]
 pub struct DirLibrary<R: Files> {
     alloc: Global,
@@ -85,24 +87,45 @@ fn read_set<R: Files>(files: &R, alloc: Global, name: &str, out: &mut Vec<u8>) -
     Ok(())
 }
 
-// Writes the bytes beside a data set, and puts them in its place only once all are written.
+// The most names that are tried for a new file.
+const MOST_PARTS: u32 = 10_000;
+
+// Writes the bytes into a new file beside a data set, and puts that in its place only once all are written.
 fn replace_set<R: Files>(files: &R, alloc: Global, name: &str, bytes: &[u8]) -> io::Result<()> {
     let path = format!(in alloc; "{name}.csv")?;
-    let part = format!(in alloc; "{name}.csv.part")?;
-    let done = match write_file(files, part.as_str(), bytes) {
+    let (part, file) = new_part(files, alloc, path.as_str())?;
+    let done = match write_part(files, path.as_str(), file, bytes) {
         Ok(()) => fs::rename(files, part.as_str(), path.as_str()),
         Err(e) => Err(e),
     };
     if done.is_err() {
-        // The fault that is told is the first one.
+        // The fault that is reported is the first one.
         let _ = fs::remove_file(files, part.as_str());
     }
     done
 }
 
-// A file of these bytes, which are on the disk when it returns.
-fn write_file<R: Files>(files: &R, path: &str, bytes: &[u8]) -> io::Result<()> {
-    let mut file = fs::File::create(files, path)?;
+// A file that this call has made beside the one at this path, with its name.
+fn new_part<R: Files>(files: &R, alloc: Global, path: &str) -> io::Result<(String, R::File)> {
+    for number in 1..=MOST_PARTS {
+        let part = format!(in alloc; "{path}.part{number}")?;
+        match fs::File::create_new(files, part.as_str()) {
+            Ok(file) => return Ok((part, file)),
+            Err(e) if e.kind() == ErrorKind::AlreadyExists => {}
+            Err(e) => return Err(e),
+        }
+    }
+    Err(io::Error::from(ErrorKind::AlreadyExists))
+}
+
+// Gives a new file the mode of the old one at this path, if there is one, and these bytes, which are on the disk when it
+// returns. The file is closed.
+fn write_part<R: Files>(files: &R, path: &str, file: R::File, bytes: &[u8]) -> io::Result<()> {
+    let mut file = file;
+    match fs::metadata(files, path) {
+        Ok(old) if old.is_file() => file.set_permissions(old.permissions())?,
+        _ => {}
+    }
     file.write_all(bytes)?;
     file.sync_all()
 }

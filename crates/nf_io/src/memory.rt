@@ -196,6 +196,7 @@ impl Library for MemLibrary {
         requires { out.old.items ≡ [] }
         ensures fails { IsErrOf result FetchFault.Failed ↔ next_fails self.old.fetches ≡ true }
         ensures fetches { self.new.fetches ≡ after_call self.old.fetches }
+        ensures sound { ¬ IsErrOf result FetchFault.Failed → self.new.fetches.faults ≡ self.old.fetches.faults }
         ensures stores { self.new.stores ≡ self.old.stores }
         ensures held { self.new.held ≡ self.old.held }
         ensures cause { HasFetchCause self.old.fetches.faults self.new.fetches.faults self.old.misses self.new.misses result }

@@ -84,11 +84,14 @@ pub trait Library {
     ///
     /// `Failed` comes only where the count of failed fetches rose, `Absent` only where the misses of this name rose and
     /// the map lacks it, `TooLong` only where the name has more than `MOST_BYTES` bytes, of which more than `MOST_BYTES`
-    /// are then in the buffer, and `NoMemory` where a growth was refused.
+    /// are then in the buffer, and `NoMemory` where a growth was refused. The misses of all names stay as they were but at
+    /// `Absent`, and the count of failed fetches but at `Failed`.
     fn fetch(&mut self, alloc: Global, name: &str, out: &mut Vec<u8>) -> Result<(), FetchFault>
         requires { out.old.items ≡ [] }
         ensures cause { HasFetchCause (fetch_faults self.old) (fetch_faults self.new) (misses self.old name.now) (misses self.new name.now) result }
         ensures misses { (q : List ℕ) → misses self.old q ≤ misses self.new q }
+        ensures there { ¬ IsErrOf result FetchFault.Absent → (q : List ℕ) → misses self.new q ≡ misses self.old q }
+        ensures sound { ¬ IsErrOf result FetchFault.Failed → fetch_faults self.new ≡ fetch_faults self.old }
         ensures stores { store_faults self.new ≡ store_faults self.old }
         ensures held { held self.new ≡ held self.old }
         ensures short { OnOk result (length out.new.items ≤ most_bytes) }
@@ -100,14 +103,14 @@ pub trait Library {
         ensures quiet_stores { quiet_stores self.new ≡ quiet_stores self.old }
         ensures calm { quiet_fetches self.old ≡ true → fetch_faults self.new ≡ fetch_faults self.old };
 
-    /// Gives a name these bytes, and changes no other name.
+    /// Gives a name these bytes, and changes no other name. It misses none.
     ///
     /// `Failed` comes only where the count of failed stores rose: what the name then has is unknown, and all other names
     /// are as they were. `NoMemory` comes where a growth was refused, and leaves all names as they were.
     fn store(&mut self, name: &str, bytes: &[u8]) -> Result<(), PutFault>
         ensures cause { HasPutCause (store_faults self.old) (store_faults self.new) result }
         ensures fetches { fetch_faults self.new ≡ fetch_faults self.old }
-        ensures misses { (q : List ℕ) → misses self.old q ≤ misses self.new q }
+        ensures misses { (q : List ℕ) → misses self.new q ≡ misses self.old q }
         ensures ok { OnOk result (Stored (held self.old) (held self.new) name.now bytes.now) }
         ensures failed { IsErrOf result PutFault.Failed → OthersStay (held self.old) (held self.new) name.now }
         ensures no_memory { IsErrOf result PutFault.NoMemory → held self.new ≡ held self.old }

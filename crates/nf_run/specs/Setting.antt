@@ -11,11 +11,12 @@ use Rattle.nf_price.specs.declared.rule.Rule.{Rule}
 use Rattle.nf_price.specs.declared.rule.Rule.TheVariants as rule
 use Rattle.nf_run.specs.declared.setting.Setting.{Setting}
 
--- The rule of pricing that an option names.
+-- The rule of pricing that an option names. QUEUE is outside the standing part, and has FIRST here.
 abbrev pub rule_for : PriceType → Rule
 rule_for price.First = rule.First
 rule_for price.Best = rule.Best
 rule_for price.Bland = rule.Bland
+rule_for price.Queue = rule.First
 
 -- What a program asks of a stage.
 abbrev pub setting_in : SessionOptions → StageNumber → Setting

@@ -72,7 +72,7 @@ fn save<K: Sink, D: Library>(
     ensures calm { K.quiet listing.old ≡ true → K.faults listing.new ≡ K.faults listing.old }
     ensures stores { D.store_faults library.old ≤ D.store_faults library.new }
     ensures fetches { D.fetch_faults library.new ≡ D.fetch_faults library.old }
-    ensures misses { (q : List ℕ) → D.misses library.old q ≤ D.misses library.new q }
+    ensures misses { (q : List ℕ) → D.misses library.new q ≡ D.misses library.old q }
     ensures quiet_fetches { D.quiet_fetches library.new ≡ D.quiet_fetches library.old }
     ensures quiet_stores { D.quiet_stores library.new ≡ D.quiet_stores library.old }
     ensures calm_stores { D.quiet_stores library.old ≡ true → D.store_faults library.new ≡ D.store_faults library.old }
@@ -111,7 +111,7 @@ pub(crate) fn end<K: Sink, D: Library>(
     ensures calm { K.quiet listing.old ≡ true → K.faults listing.new ≡ K.faults listing.old }
     ensures stores { D.store_faults library.old ≤ D.store_faults library.new }
     ensures fetches { D.fetch_faults library.new ≡ D.fetch_faults library.old }
-    ensures misses { (q : List ℕ) → D.misses library.old q ≤ D.misses library.new q }
+    ensures misses { (q : List ℕ) → D.misses library.new q ≡ D.misses library.old q }
     ensures quiet_fetches { D.quiet_fetches library.new ≡ D.quiet_fetches library.old }
     ensures quiet_stores { D.quiet_stores library.new ≡ D.quiet_stores library.old }
     ensures calm_stores { D.quiet_stores library.old ≡ true → D.store_faults library.new ≡ D.store_faults library.old }

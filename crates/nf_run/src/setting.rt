@@ -46,12 +46,12 @@ pub(crate) fn setting_two(options: &SessionOptions) -> Setting
     }
 }
 
-// The rule of pricing that an option names.
+// The rule of pricing that an option names. QUEUE is outside the standing part, and has FIRST here.
 fn rule_for(option: PriceType) -> Rule
     ensures { result ≡ rule_for option }
 {
     match option {
-        PriceType::First => Rule::First,
+        PriceType::First | PriceType::Queue => Rule::First,
         PriceType::Best => Rule::Best,
         PriceType::Bland => Rule::Bland,
     }

@@ -1,6 +1,0 @@
-pub mod WordFacts
-pub mod StopFacts
-pub mod PlainFacts
-pub mod CompleteFacts
-pub mod RefusedFacts
-pub mod RunFacts

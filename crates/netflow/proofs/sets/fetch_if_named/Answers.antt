@@ -1,6 +1,0 @@
-use Rattle.std.proofs.Common.{ap, sym, ◌∙◌}
-use Rattle.netflow.specs.Steps.{lent_name}
-use Rattle.netflow.proofs.sets.fetch_if_named.Goals as goal
-
-pub returns-in-Err-clause-stops : goal.returns-in-Err-clause-stops
-returns-in-Err-clause-stops g c = λ i d n saw named here before is. c.in-Err.ensures.stops i d n saw named here before (ap lent_name (sym c.in-Some.is) ∙ is)

@@ -1,6 +1,0 @@
-use Rattle.std.proofs.Common.{ap, sym, ◌∙◌}
-use Rattle.netflow.specs.Steps.{bytes_in}
-use Rattle.netflow.proofs.sets.read_if_there.Goals as goal
-
-pub returns-in-Err-clause-stops : goal.returns-in-Err-clause-stops
-returns-in-Err-clause-stops c = λ i d s here fetched before is. c.in-Err.ensures.stops i d s here fetched before (ap bytes_in (sym c.in-Some.is) ∙ is)

@@ -1,0 +1,7 @@
+pub mod WordFacts
+pub mod StopFacts
+pub mod PlainFacts
+pub mod CompleteFacts
+pub mod RefusedFacts
+pub mod RunFacts
+pub mod RanFacts
