@@ -343,7 +343,7 @@ def main():
                 faults.append("%s: the other implementation answered %d %r, due is %d %r" % (what, *theirs[:2], status, listing))
         seen[kind(*got[:2])] += not faults
         if faults:
-            with open(os.path.join(folder, "program.txt"), "wb") as f:
+            with open(os.path.join(folder, "check.txt"), "wb") as f:
                 f.write(text)
         return faults
 

@@ -25,12 +25,15 @@ PROGRAM = b"proc netflow arcdata=arcs nodedata=nodes certdata=certificate;"
 # a folder of examples/, the file with the program, the command, the whole listing or the file that has it, and a data set
 # that is stored, as the folder has it
 EXAMPLES = [
-    ("distribution", "program.txt", "check", "listing.txt", None),
-    ("distribution", "program.txt", "check", "ACCEPTED OPTIMAL\nTOTAL COST 725\n", None),
-    ("distribution", "solve.txt", "run", "OPTIMAL\nTOTAL COST 725\nSTAGE 1 PIVOTS 15\nSTAGE 2 PIVOTS 0\n", None),
-    ("refinery", "program.txt", "run", "listing.txt", None),
-    ("production", "program.txt", "run", "listing.txt", "plan.csv"),
+    ("distribution", "run.txt", "run", "listing.txt", "plan.csv"),
+    ("distribution", "check.txt", "check", "ACCEPTED OPTIMAL\nTOTAL COST 725\n", None),
+    ("refinery", "run.txt", "run", "listing.txt", None),
+    ("production", "run.txt", "run", "listing.txt", "plan.csv"),
     ("production", "check.txt", "check", "ACCEPTED OPTIMAL\nTOTAL COST 5960\n", None),
+    ("misspelt", "run.txt", "run", "listing.txt", "plan.csv"),
+    ("misspelt", "check.txt", "check", "ACCEPTED INFEASIBLE\nGAP 6\n", None),
+    ("excess", "run.txt", "run", "listing.txt", "plan.csv"),
+    ("excess", "check.txt", "check", "ACCEPTED OPTIMAL\nTOTAL COST 665\n", None),
 ]
 
 # file, text that stands there once, text in its place, status, listing
@@ -64,7 +67,7 @@ ONE_CHANGE = [
     ("certificate.csv", "_ITEM_,_NUMBER_,_VALUE_", "_item_,_Number_,_VALUE_", *ACCEPTED),
     ("arcs.csv", "Birch mill,West depot,5,INF", "Birch mill,\"West depot\", 005 ,inf", *ACCEPTED),
     ("nodes.csv", "Birch mill,35", "\r\nBirch mill , 35", *ACCEPTED),
-    ("program.txt", "certificate;\n", "certificate;", *ACCEPTED),
+    ("check.txt", "certificate;\n", "certificate;", *ACCEPTED),
     # the data
     ("arcs.csv", "East depot,4,30", "East depot,4,31", 9, "REFUSED REDUCED COST C1"),
     ("arcs.csv", "East depot,4,30", "East depot,4,29", 9, "REFUSED BOUND C1"),
@@ -89,38 +92,38 @@ ONE_CHANGE = [
     ("nodes.csv", "Carlow,-20", "Carlow", 4, "DATA REFUSED NODEDATA ROW 3: RowLength"),
     ("nodes.csv", "_SUPDEM_", "_SUPPLY_", 4, "DATA REFUSED NODEDATA: MissingRole SUPDEM"),
     # the program text
-    ("program.txt", "certificate;\n", "certificate; quit;\n", *ACCEPTED),
-    ("program.txt", "proc netflow", "/* the plan */ PROC  NetFlow\n", *ACCEPTED),
-    ("program.txt", "certificate;\n", "certificate;\n;\n /* end */", *ACCEPTED),
-    ("program.txt", "arcdata=arcs nodedata=nodes", "NODEDATA = Nodes ArcData = ARCS", *ACCEPTED),
-    ("program.txt", "certificate;", "certificate maxit1=5 pricetype2=best arcout=o future1;", *ACCEPTED),
-    ("program.txt", "certificate;", "certificate warm conin=a dualin=b sessiondata=c;", *ACCEPTED),
-    ("program.txt", "certificate;\n", "certificate; run;\n", 3, "PROGRAM REFUSED AT 63: StatementOrder"),
-    ("program.txt", "proc netflow", "proc flow", 3, "PROGRAM REFUSED AT 5: UnknownWord"),
-    ("program.txt", "proc netflow", "netflow", 3, "PROGRAM REFUSED AT 0: NoProc"),
-    ("program.txt", "certificate;", "certificate", 3, "PROGRAM REFUSED AT 62: MissingSemicolon"),
-    ("program.txt", " certdata=certificate", "", 3, "PROGRAM REFUSED AT 40: MissingOption"),
-    ("program.txt", "arcdata=arcs ", "", 3, "PROGRAM REFUSED AT 48: MissingOption"),
-    ("program.txt", "nodes certdata", "nodes nodedata=n certdata", 3, "PROGRAM REFUSED AT 41: RepeatedOption"),
-    ("program.txt", "arcdata=arcs", "arcdata='arcs'", 3, "PROGRAM REFUSED AT 21: WrongValue"),
-    ("program.txt", "certificate;", "certificate warm maxit1=5;", 3, "PROGRAM REFUSED AT 67: OptionNotHere"),
-    ("program.txt", "certificate;\n", "certificate; /* end\n", 3, "PROGRAM REFUSED AT 63: OpenComment"),
-    ("program.txt", "certificate;\n", "certificate; cost 'c\n", 3, "PROGRAM REFUSED AT 68: OpenQuote"),
-    ("program.txt", "nodes certdata", "nodes, certdata", 3, "PROGRAM REFUSED AT 40: BadByte"),
-    ("program.txt", " nodedata=nodes", "", 9, "REFUSED ROW 1"),
-    ("program.txt", "certificate;", "certificate thrunet;", *ACCEPTED),
-    ("program.txt", "certificate;", "certificate defcost=1;", *ACCEPTED),
-    ("program.txt", "certificate;", "certificate maximize;", 9, "REFUSED REDUCED COST C2"),
-    ("program.txt", "certificate;", "certificate defcontype=ge;", *ACCEPTED),
-    ("program.txt", "certificate;", "certificate condata=cons;", 7, "ABSENT cons"),
-    ("program.txt", "certificate;", "certificate condata=nodes;", 4, "DATA REFUSED CONDATA ROW 1 COLUMN _NODE_: Amount"),
-    ("program.txt", "certificate;", "certificate condata=nodes sparsecondata;", 4, "DATA REFUSED CONDATA: MissingRole ROW"),
-    ("program.txt", "certificate;", "certificate sparsecondata;", 3, "PROGRAM REFUSED AT 75: MissingOption"),
-    ("program.txt", "certificate;\n", "certificate; cost c;\n", 4, "DATA REFUSED ARCDATA: NoColumn c"),
-    ("program.txt", "certificate;\n", "certificate; capac _capac_; supdem '_supdem_';\n", *ACCEPTED),
-    ("program.txt", "certificate;\n", "certificate; rhs b;\n", *ACCEPTED),
-    ("program.txt", "certdata=certificate", "certdata=elsewhere", 7, "ABSENT elsewhere"),
-    ("program.txt", "arcdata=arcs", "arcdata=nodes", 4, "DATA REFUSED ARCDATA: MissingRole TAILNODE"),
+    ("check.txt", "certificate;\n", "certificate; quit;\n", *ACCEPTED),
+    ("check.txt", "proc netflow", "/* the plan */ PROC  NetFlow\n", *ACCEPTED),
+    ("check.txt", "certificate;\n", "certificate;\n;\n /* end */", *ACCEPTED),
+    ("check.txt", "arcdata=arcs nodedata=nodes", "NODEDATA = Nodes ArcData = ARCS", *ACCEPTED),
+    ("check.txt", "certificate;", "certificate maxit1=5 pricetype2=best arcout=o future1;", *ACCEPTED),
+    ("check.txt", "certificate;", "certificate warm conin=a dualin=b sessiondata=c;", *ACCEPTED),
+    ("check.txt", "certificate;\n", "certificate; run;\n", 3, "PROGRAM REFUSED AT 63: StatementOrder"),
+    ("check.txt", "proc netflow", "proc flow", 3, "PROGRAM REFUSED AT 5: UnknownWord"),
+    ("check.txt", "proc netflow", "netflow", 3, "PROGRAM REFUSED AT 0: NoProc"),
+    ("check.txt", "certificate;", "certificate", 3, "PROGRAM REFUSED AT 62: MissingSemicolon"),
+    ("check.txt", " certdata=certificate", "", 3, "PROGRAM REFUSED AT 40: MissingOption"),
+    ("check.txt", "arcdata=arcs ", "", 3, "PROGRAM REFUSED AT 48: MissingOption"),
+    ("check.txt", "nodes certdata", "nodes nodedata=n certdata", 3, "PROGRAM REFUSED AT 41: RepeatedOption"),
+    ("check.txt", "arcdata=arcs", "arcdata='arcs'", 3, "PROGRAM REFUSED AT 21: WrongValue"),
+    ("check.txt", "certificate;", "certificate warm maxit1=5;", 3, "PROGRAM REFUSED AT 67: OptionNotHere"),
+    ("check.txt", "certificate;\n", "certificate; /* end\n", 3, "PROGRAM REFUSED AT 63: OpenComment"),
+    ("check.txt", "certificate;\n", "certificate; cost 'c\n", 3, "PROGRAM REFUSED AT 68: OpenQuote"),
+    ("check.txt", "nodes certdata", "nodes, certdata", 3, "PROGRAM REFUSED AT 40: BadByte"),
+    ("check.txt", " nodedata=nodes", "", 9, "REFUSED ROW 1"),
+    ("check.txt", "certificate;", "certificate thrunet;", *ACCEPTED),
+    ("check.txt", "certificate;", "certificate defcost=1;", *ACCEPTED),
+    ("check.txt", "certificate;", "certificate maximize;", 9, "REFUSED REDUCED COST C2"),
+    ("check.txt", "certificate;", "certificate defcontype=ge;", *ACCEPTED),
+    ("check.txt", "certificate;", "certificate condata=cons;", 7, "ABSENT cons"),
+    ("check.txt", "certificate;", "certificate condata=nodes;", 4, "DATA REFUSED CONDATA ROW 1 COLUMN _NODE_: Amount"),
+    ("check.txt", "certificate;", "certificate condata=nodes sparsecondata;", 4, "DATA REFUSED CONDATA: MissingRole ROW"),
+    ("check.txt", "certificate;", "certificate sparsecondata;", 3, "PROGRAM REFUSED AT 75: MissingOption"),
+    ("check.txt", "certificate;\n", "certificate; cost c;\n", 4, "DATA REFUSED ARCDATA: NoColumn c"),
+    ("check.txt", "certificate;\n", "certificate; capac _capac_; supdem '_supdem_';\n", *ACCEPTED),
+    ("check.txt", "certificate;\n", "certificate; rhs b;\n", *ACCEPTED),
+    ("check.txt", "certdata=certificate", "certdata=elsewhere", 7, "ABSENT elsewhere"),
+    ("check.txt", "arcdata=arcs", "arcdata=nodes", 4, "DATA REFUSED ARCDATA: MissingRole TAILNODE"),
 ]
 
 # name of a file, its bytes in place of those that it has (None: there is no such file), status, listing
@@ -135,11 +138,13 @@ WHOLE_FILE = [
     ("certificate.csv", b"_ITEM_,_NUMBER_,_VALUE_\nVERDICT,1,OPTIMAL\nCOL,1,\xff\n", 4, "DATA REFUSED CERTDATA ROW 2: NotText"),
     ("arcs.csv", b"_FROM_,_TO_,_COST_,_CAPAC_\n\xc3,b,1,1\n", 4, "DATA REFUSED ARCDATA ROW 1: NotText"),
     ("arcs.csv", b"_FROM_,_TO_,_COST_,\xff\n", 4, "DATA REFUSED ARCDATA ROW 0: NotText"),
+    ("arcs.csv", b'_FROM_,_TO_,"x\nACCEPTED OPTIMAL","X\nACCEPTED OPTIMAL"\n', 4, "DATA REFUSED ARCDATA: RepeatedColumn X?ACCEPTED OPTIMAL"),
+    ("arcs.csv", b'_FROM_,_FROM_,"\x1b[2J\x7f\t"\n', 4, "DATA REFUSED ARCDATA: RepeatedColumn _FROM_"),
     ("arcs.csv", b"_FROM_,_TO_,_COST_,_CAPAC_\n" + b"a,b,1,1\n" * (67108864 // 8), 4, "DATA REFUSED ARCDATA: TooLong"),
-    ("program.txt", b"", 3, "PROGRAM REFUSED AT 0: NoProc"),
-    ("program.txt", PROGRAM + b"\n" * (1048576 - len(PROGRAM)), *ACCEPTED),
-    ("program.txt", PROGRAM + b"\n" * (1048577 - len(PROGRAM)), 3, "PROGRAM REFUSED AT 1048576: TooLong"),
-    ("program.txt", b"proc netflow arcdata=\xff nodedata=nodes certdata=certificate;\n", 3, "PROGRAM REFUSED AT 21: BadByte"),
+    ("check.txt", b"", 3, "PROGRAM REFUSED AT 0: NoProc"),
+    ("check.txt", PROGRAM + b"\n" * (1048576 - len(PROGRAM)), *ACCEPTED),
+    ("check.txt", PROGRAM + b"\n" * (1048577 - len(PROGRAM)), 3, "PROGRAM REFUSED AT 1048576: TooLong"),
+    ("check.txt", b"proc netflow arcdata=\xff nodedata=nodes certdata=certificate;\n", 3, "PROGRAM REFUSED AT 21: BadByte"),
 ]
 
 WORDS = [[], ["run", "run"], ["Run"], ["run "], ["sample", "1", "3", "3", "0"], ["check", "check"], ["CHECK"], ["check "], [""], ["--help"], ["-"]]
@@ -147,7 +152,7 @@ WORDS = [[], ["run", "run"], ["Run"], ["run "], ["sample", "1", "3", "3", "0"], 
 
 def check(t, folder, words=("check",), **more):
     """The program's answer in a copy of the example."""
-    return t.run(folder, words, bytes_of(folder, "program.txt"), **more)
+    return t.run(folder, words, bytes_of(folder, "check.txt"), **more)
 
 
 def bytes_of(folder, name):
@@ -165,7 +170,7 @@ class Copy:
 
     def __enter__(self):
         self.folder = tempfile.mkdtemp()
-        for name in ("arcs.csv", "nodes.csv", "certificate.csv", "program.txt"):
+        for name in ("arcs.csv", "nodes.csv", "certificate.csv", "check.txt"):
             shutil.copy(os.path.join(EXAMPLE, name), self.folder)
         return self
 
@@ -265,6 +270,16 @@ def tables(t):
             t.expect("words %r" % (words,), check(t, c.folder, words), 2, USAGE)
 
 
+def forged_lines(t):
+    """A header cell of CONDATA that would print a line of its own: each control byte is printed as `?`."""
+    for cell, printed in (("x\nACCEPTED OPTIMAL", "x?ACCEPTED OPTIMAL"), ("x\r\n\x00\x7fOPTIMAL", "x????OPTIMAL")):
+        with Copy() as c:
+            c.change("check.txt", "certificate;", "certificate condata=cons;")
+            with open(c.path("cons.csv"), "w", newline="", encoding="utf-8") as f:
+                f.write('"%s"\n1\n' % cell)
+            t.expect("a header cell %r" % cell, check(t, c.folder), 4, "DATA REFUSED CONDATA ROW 0 COLUMN %s: BadName" % printed)
+
+
 def too_many_nodes(t):
     """1,000 nodes are taken, 1,001 are not."""
     for count, status, listing in ((1000, 0, "ACCEPTED OPTIMAL\nTOTAL COST 0\n"), (1001, 4, "DATA REFUSED PROC ROW 0 COLUMN ROWS: LimitPassed")):
@@ -299,7 +314,7 @@ def all_kinds(t):
         with Copy() as c:
             for name, text in (("arcs.csv", "_FROM_,_TO_,_COST_,_CAPAC_/" + arcs), ("nodes.csv", "_NODE_,_SUPDEM_/" + (nodes or "")),
                                ("certificate.csv", "_ITEM_,_NUMBER_,_VALUE_/" + rows),
-                               ("program.txt", "proc netflow arcdata=arcs %scertdata=certificate %s;" % ("nodedata=nodes " if nodes else "", options))):
+                               ("check.txt", "proc netflow arcdata=arcs %scertdata=certificate %s;" % ("nodedata=nodes " if nodes else "", options))):
                 with open(c.path(name), "w", encoding="utf-8") as f:
                     f.write(text.replace("/", "\n"))
             t.expect("%s of %s" % (rows, arcs), check(t, c.folder), status, listing)
@@ -343,7 +358,7 @@ def outside(t):
 
 def main():
     t = Cases(arguments("The built program on real files.").parse_args().netflow)
-    for part in (examples, each_number, each_binding_capacity, each_two_supplies, tables, too_many_nodes, all_kinds, passes_the_range, outside):
+    for part in (examples, each_number, each_binding_capacity, each_two_supplies, tables, forged_lines, too_many_nodes, all_kinds, passes_the_range, outside):
         part(t)
     return t.end()
 
