@@ -4,9 +4,10 @@
     python3 bench/gate.py -- rt ci NAME    the same of another command
     python3 bench/gate.py --seconds 60     watches what runs on this machine for that long, and starts nothing
 
-It looks at the prover's processes five times a second, so it misses up to 0.2 seconds of each. Where an earlier run has
-kept a proof, nothing is proved again and nothing is counted: `rt ci --anew` proves everything. Standard error has the
-command's own lines, each with the seconds since the start.
+It looks at the prover's processes five times a second, so it misses up to 0.2 seconds of each. Of a command it counts only
+the processes of that command's session, whatever else runs on the machine. If an earlier run has kept a proof, nothing is
+proved again and nothing is counted: `rt ci --anew` proves everything. Standard error has the command's own lines, each with
+the seconds since the start.
 """
 
 import argparse
@@ -21,13 +22,13 @@ TICKS = os.sysconf("SC_CLK_TCK")
 
 
 def process_of(number):
-    """Returns the words of a process, its folder and its processor seconds so far, or None if it has ended."""
+    """Returns the words of a process, its session, its folder and its processor seconds so far, or None if it has ended."""
     try:
         with open(f"/proc/{number}/cmdline", "rb") as file:
             words = file.read().decode(errors="replace").split("\0")
         with open(f"/proc/{number}/stat", "rb") as file:
             fields = file.read().rsplit(b")", 1)[1].split()
-        return words, os.readlink(f"/proc/{number}/cwd"), (int(fields[11]) + int(fields[12])) / TICKS
+        return words, int(fields[3]), os.readlink(f"/proc/{number}/cwd"), (int(fields[11]) + int(fields[12])) / TICKS
     except (OSError, IndexError, ValueError):
         return None
 
@@ -42,15 +43,18 @@ def part_of(words, folder):
     return crate, "tests" if "--test" in words else "proof"
 
 
-def watch(is_over, seen):
-    """Keeps the greatest count of processor seconds of each of the prover's processes until it is over."""
+def watch(is_over, seen, session=None):
+    """Keeps the greatest count of processor seconds of each of the prover's processes, of one session or of all, until it
+    is over."""
     while not is_over():
         for number in filter(str.isdigit, os.listdir("/proc")):
             found = process_of(number)
-            part = found and part_of(found[0], found[1])
+            if not found or session not in (None, found[1]):
+                continue
+            part = part_of(found[0], found[2])
             if part:
                 key = (number, *part)
-                seen[key] = max(seen.get(key, 0), found[2])
+                seen[key] = max(seen.get(key, 0), found[3])
         time.sleep(0.2)
 
 
@@ -71,9 +75,10 @@ def table_of(seen):
 def run(command, seen):
     """Runs a command while its proofs are watched, and returns its status."""
     start, over = time.monotonic(), threading.Event()
-    watcher = threading.Thread(target=watch, args=(over.is_set, seen))
-    watcher.start()
-    with subprocess.Popen(command, stdout=subprocess.PIPE, stderr=subprocess.STDOUT, text=True, errors="replace") as made:
+    with subprocess.Popen(command, stdout=subprocess.PIPE, stderr=subprocess.STDOUT, text=True, errors="replace",
+                          start_new_session=True) as made:
+        watcher = threading.Thread(target=watch, args=(over.is_set, seen, made.pid))
+        watcher.start()
         for line in made.stdout:
             print(f"{time.monotonic() - start:7.0f} {line}", end="", file=sys.stderr, flush=True)
     over.set()
