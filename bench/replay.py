@@ -1,7 +1,7 @@
 """The simplex method of `netflow run` once more, step by step in fractions without limit, that tells how wide its numbers get.
 
-It makes the same pivots as the program with the dense basis, and adds and multiplies the same numbers in the same order. So it
-tells how many bits the widest number has that the program met, or would have to meet where it is refused by its 128 bits:
+It makes the same pivots as the program with the dense basis, and adds and multiplies the same numbers in the same order: like
+the program it finds the duals of each phase once a stage, and changes them at each pivot. So it tells how many bits the widest number has that the program met, or would have to meet where it is refused by its 128 bits:
 `widest` is the widest numerator or denominator of all that was computed (values, entries, the whole inverse, duals, reduced
 costs, ratios), and `inside` the widest of these and of the products and sums inside an operation, before they are brought to
 lowest terms. A number of the program has 127 bits and a sign.
@@ -104,6 +104,7 @@ class Run:
         self.stage, self.cursor, self.pivots = 1, 0, [0, 0]
         self.place = {(GIVEN, j): LOWER for j in range(problem.arcs)}
         self.sign, self.slots, self.values, self.inverse = {}, [], [], []
+        self.kept = {}
         for i in range(problem.nodes):
             lacks = self.row_rest(i, lambda j: self.p.columns[j][1])
             self.set_basic((ARTIFICIAL, i), i, lacks)
@@ -163,7 +164,10 @@ class Run:
         return out
 
     def duals(self, phase):
-        out = [ZERO] * self.size()
+        """The duals of a phase by row: found once a stage, and kept from then on."""
+        if phase in self.kept:
+            return self.kept[phase]
+        out = self.kept[phase] = [ZERO] * self.size()
         for col, row in zip(self.slots, self.inverse):
             cost = self.cost(col, phase)
             if cost[0]:
@@ -171,8 +175,17 @@ class Run:
                     out[i] = self.meter.add_product(out[i], weight, cost)
         return out
 
+    def change_duals(self, col, slot):
+        """After a pivot: to each dual comes the entering column's reduced cost times the weight of its slot."""
+        for phase, duals in self.kept.items():
+            change = self.reduced_cost(col, phase, duals)
+            for i, weight in self.inverse[slot].items():
+                duals[i] = self.meter.add_product(duals[i], weight, change)
+
     def reduced(self, k, phase, duals):
-        col = self.priced(k)
+        return self.reduced_cost(self.priced(k), phase, duals)
+
+    def reduced_cost(self, col, phase, duals):
         if col[0] == GIVEN:
             return self.meter.rest(self.cost(col, phase), ((duals[i], value) for i, value in self.entries_of(col)))
         n, d = duals[col[1]]
@@ -283,6 +296,7 @@ class Run:
         self.change_values(entries, change)
         self.values[slot] = entered
         self.exchange(entries, slot)
+        self.change_duals(col, slot)
         self.place[self.slots[slot]] = to
         self.place[col], self.slots[slot] = BASIC, col
 
@@ -311,7 +325,7 @@ class Run:
         self.meter.where = (2, 0)
         p, first = self.p, [dict(row) for row in self.inverse]
         at = {col: self.value(col) for col in self.place if col[0] == GIVEN}
-        self.stage, self.cursor = 2, 0
+        self.stage, self.cursor, self.kept = 2, 0, {}
         for j in range(p.arcs, len(p.columns)):
             self.place[GIVEN, j] = LOWER
             at[GIVEN, j] = p.columns[j][1]
