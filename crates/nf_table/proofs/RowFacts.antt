@@ -12,7 +12,7 @@ use Rattle.csv.specs.Records.{Row, fields_of, partial_of}
 use Rattle.nf_io.specs.Held.{most_bytes}
 use Rattle.nf_table.specs.Cut.{rows_cut}
 use Rattle.nf_table.specs.Grid.{Cells}
-use Rattle.nf_table.specs.Places.{Place, ReadOther, ReadRow, next_of, records_at}
+use Rattle.nf_table.specs.Cursor.{Cursor, ReadOther, ReadRow, next_of, records_at}
 use Rattle.nf_table.specs.Progress.{CellsHold, RowsOn, RowsRead, rows_held}
 use Rattle.nf_table.specs.Reading.{rows_read}
 use Rattle.nf_table.specs.declared.table.TableFault.TheVariants as fault
@@ -34,7 +34,7 @@ unfolding rows_read
 row-bad header done r rs wide bad = rw (wide, eq-eqb (length header) (length header) refl, bad) refl
 
 -- a row is as long as the header
-row-width : (header : Cells) (records : List Cells) (rows : ℕ) (p q : Place) (cells : Row) → RowsOn header records rows p cells → ReadRow p q → length q.cells ≡ length header
+row-width : (header : Cells) (records : List Cells) (rows : ℕ) (p q : Cursor) (cells : Row) → RowsOn header records rows p cells → ReadRow p q → length q.cells ≡ length header
 row-width header records rows p q cells on read = let same = rw on.expected at read.same in cc (same, read.expected)
 
 -- the cells with one more row
@@ -57,7 +57,7 @@ held-more header rows cells next r hold wide fields =
     rw (fields, drop-append-le (length header) (fields_of cells) r room, cut-more rows (length header) (drop (length header) (fields_of cells)) r body wide) refl
 
 -- the records before the rows are what they are after one more
-pub rows-more : (header : Cells) (records : List Cells) (rows : ℕ) (p q : Place) (cells next : Row) → RowsOn header records rows p cells → ReadRow p q
+pub rows-more : (header : Cells) (records : List Cells) (rows : ℕ) (p q : Cursor) (cells next : Row) → RowsOn header records rows p cells → ReadRow p q
     → list_all is_utf8 q.cells ≡ true → fields_of next ≡ fields_of cells ++ q.cells → partial_of next ≡ [] → RowsOn header records (rows + 1) q next
 rows-more header records rows p q cells next on read text fields partial =
     let wide : length q.cells ≡ length header = row-width header records rows p q cells on read in
@@ -76,20 +76,20 @@ rows-more header records rows p q cells next on read text fields partial =
     }
 
 -- one more row can be counted
-pub rows-fit : (header : Cells) (records : List Cells) (rows : ℕ) (p q : Place) (cells : Row) → RowsOn header records rows p cells → ReadRow p q → rows + 1 ≤ most_bytes
+pub rows-fit : (header : Cells) (records : List Cells) (rows : ℕ) (p q : Cursor) (cells : Row) → RowsOn header records rows p cells → ReadRow p q → rows + 1 ≤ most_bytes
 rows-fit header records rows p q cells on read = let shorter = next-shorter p.state p.left (q.cells, q.state, q.left) on.rests read.next in omega (arith, on.few, shorter.1)
 
-pub other-fits : (header : Cells) (records : List Cells) (rows : ℕ) (p : Place) (cells : Row) → RowsOn header records rows p cells → ReadOther p → rows + 1 ≤ most_bytes
+pub other-fits : (header : Cells) (records : List Cells) (rows : ℕ) (p : Cursor) (cells : Row) → RowsOn header records rows p cells → ReadOther p → rows + 1 ≤ most_bytes
 other-fits header records rows p cells on other = let shorter = next-shorter p.state p.left other.next on.rests other.is in omega (arith, on.few, shorter.1)
 
-pub rows-end : (header : Cells) (records : List Cells) (rows : ℕ) (p : Place) (cells : Row) → RowsOn header records rows p cells → next_of p ≡ None → RowsRead header records rows cells
+pub rows-end : (header : Cells) (records : List Cells) (rows : ℕ) (p : Cursor) (cells : Row) → RowsOn header records rows p cells → next_of p ≡ None → RowsRead header records rows cells
 unfolding rows_read
 rows-end header records rows p cells on none = record {
   hold = on.hold;
   all = rw (records-none on.fuel p.state p.left none) at on.same;
 }
 
-pub rows-other : (header : Cells) (records : List Cells) (rows : ℕ) (p : Place) (cells : Row) → RowsOn header records rows p cells → ReadOther p → rows_read header [] records ≡ Err (fault.RowLength (rows + 1))
+pub rows-other : (header : Cells) (records : List Cells) (rows : ℕ) (p : Cursor) (cells : Row) → RowsOn header records rows p cells → ReadOther p → rows_read header [] records ≡ Err (fault.RowLength (rows + 1))
 unfolding rows_read
 rows-other header records rows p cells on other =
     let (fuel, more, enough) = records-some on.fuel p.state p.left other.next on.enough on.rests other.is in
@@ -97,7 +97,7 @@ rows-other header records rows p cells on other =
     on.same ∙ ap (λ t. rows_read header (rows_held header rows cells) t) more
     ∙ row-other header _ other.next.0 _ (λ e. other.differs (first ∙ sym e)) ∙ ap (λ n. Err (fault.RowLength (n + 1))) (length-cut rows _ _)
 
-pub rows-not-text : (header : Cells) (records : List Cells) (rows : ℕ) (p q : Place) (cells : Row) → RowsOn header records rows p cells → ReadRow p q → list_all is_utf8 q.cells ≡ false
+pub rows-not-text : (header : Cells) (records : List Cells) (rows : ℕ) (p q : Cursor) (cells : Row) → RowsOn header records rows p cells → ReadRow p q → list_all is_utf8 q.cells ≡ false
     → rows_read header [] records ≡ Err (fault.NotText (rows + 1))
 unfolding rows_read
 rows-not-text header records rows p q cells on read bad =
@@ -105,7 +105,7 @@ rows-not-text header records rows p q cells on read bad =
     on.same ∙ ap (λ t. rows_read header (rows_held header rows cells) t) more
     ∙ row-bad header _ q.cells _ (row-width header records rows p q cells on read) bad ∙ ap (λ n. Err (fault.NotText (n + 1))) (length-cut rows _ _)
 
-pub rows-none : (p : Place) (cells : Row) → p.ended ≡ false → ends_at_end p.state ≡ false → length p.left ≤ most_bytes → p.expected ≡ Some (length (fields_of cells)) → partial_of cells ≡ []
+pub rows-none : (p : Cursor) (cells : Row) → p.ended ≡ false → ends_at_end p.state ≡ false → length p.left ≤ most_bytes → p.expected ≡ Some (length (fields_of cells)) → partial_of cells ≡ []
     → list_all is_utf8 (fields_of cells) ≡ true → RowsOn (fields_of cells) (records_at p) 0 p cells
 unfolding rows_cut
 rows-none p cells going rests few expected partial text = record {

@@ -1,8 +1,8 @@
 pub mod Grid
 pub mod Cut
 pub mod Reading
-pub mod Places
-pub mod Standing
+pub mod Cursor
+pub mod CursorInside
 pub mod Inside
 pub mod Progress
 pub mod Making

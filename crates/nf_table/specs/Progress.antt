@@ -9,7 +9,7 @@ use Rattle.csv.specs.Records.{Row, fields_of, partial_of}
 use Rattle.nf_io.specs.Held.{most_bytes}
 use Rattle.nf_table.specs.Cut.{rows_cut}
 use Rattle.nf_table.specs.Grid.{Cells}
-use Rattle.nf_table.specs.Places.{Place, ReadRow}
+use Rattle.nf_table.specs.Cursor.{Cursor, ReadRow}
 use Rattle.nf_table.specs.Reading.{repeated_column, rows_read}
 
 -- The cells are those of the header and then of so many rows, and all are text.
@@ -29,7 +29,7 @@ pub record RowsRead (header : Cells) (records : List Cells) (rows : ℕ) (cells 
   pub all : rows_read header [] records ≡ Ok (record { header = header; rows = rows_held header rows cells; hand = [] })
 
 -- So many rows were read, and what the records give is what the rest of them gives after these rows.
-pub record RowsOn (header : Cells) (records : List Cells) (rows : ℕ) (p : Place) (cells : Row) : Type 0 where
+pub record RowsOn (header : Cells) (records : List Cells) (rows : ℕ) (p : Cursor) (cells : Row) : Type 0 where
   pub going : p.ended ≡ false
   pub rests : ends_at_end p.state ≡ false
   pub expected : p.expected ≡ Some (length header)
@@ -40,7 +40,7 @@ pub record RowsOn (header : Cells) (records : List Cells) (rows : ℕ) (p : Plac
   pub same : rows_read header [] records ≡ rows_read header (rows_held header rows cells) (records_from default_config fuel p.state p.left)
 
 -- The first record was read, its cells are all the cells, and none of its faults is there.
-pub record HeaderRead (old new : Place) (width : ℕ) (cells : Row) : Type 0 where
+pub record HeaderRead (old new : Cursor) (width : ℕ) (cells : Row) : Type 0 where
   pub read : ReadRow old new
   pub rests : ends_at_end new.state ≡ false
   pub few : length new.left ≤ most_bytes

@@ -5,7 +5,7 @@ ghost use Rattle.std.specs.Str.{is_utf8};
 ghost use Rattle.csv.specs.Records.{fields_of, partial_of};
 ghost use Rattle.csv.specs.Machine.{ends_at_end};
 ghost use Rattle.nf_io.specs.Held.{most_bytes};
-ghost use Rattle.nf_table.specs.Places.{records_at};
+ghost use Rattle.nf_table.specs.Cursor.{records_at};
 ghost use Rattle.nf_table.specs.Progress.{HeaderRead, RowsRead};
 ghost use Rattle.nf_table.specs.Reading.{Answers, records_read, rows_read, table_read};
 
@@ -33,7 +33,7 @@ pub fn read_table(alloc: Global, bytes: &[u8]) -> Result<Table, TableFault>
         return Err(TableFault::TooLong);
     }
     let mut cells = ByteRecord::with_capacity(alloc, bytes.len(), most_cells(bytes))?;
-    let mut records = Records::new(alloc, bytes);
+    let mut records = Records::new(alloc, bytes)?;
     let width = read_header(alloc, &mut records, &mut cells)?;
     let rows = read_rows(&mut records, &mut cells)?;
     Ok(Table::from_cells(cells, width, rows))

@@ -3,7 +3,7 @@ ghost use Rattle.std.specs.Prelude.{◌≡◌, [], None, IfOk, false};
 ghost use Rattle.csv.specs.Records.{fields_of};
 ghost use Rattle.csv.specs.Reading.{strip_bom};
 ghost use Rattle.csv.specs.declared.parser.State.TheVariants as st;
-ghost use Rattle.nf_table.specs.Places.{StepGives};
+ghost use Rattle.nf_table.specs.Cursor.{StepGives};
 
 use csv::{ByteRecord, ErrorKind, Reader, ReaderBuilder};
 use std::alloc::{AllocError, Global};
@@ -29,15 +29,15 @@ pub(crate) struct Records<'a> {
 }
 
 impl<'a> Model for Records<'a> {
-    ghost use Rattle.nf_table.specs.Places.{Place};
+    ghost use Rattle.nf_table.specs.Cursor.{Cursor};
 
-    ghost Value = { Place };
+    ghost Value = { Cursor };
 
-    ghost use Rattle.nf_table.specs.Standing.{IsStanding, place_of};
+    ghost use Rattle.nf_table.specs.CursorInside.{IsReadingOn, cursor_of};
 
-    ghost view = { place_of };
+    ghost view = { cursor_of };
 
-    ghost invariant = { IsStanding };
+    ghost invariant = { IsReadingOn };
 }
 
 // A function of its own, so that the callers' proofs do not go through the parts of the reader.
@@ -52,19 +52,22 @@ impl<'a> Drop for Records<'a> {
 }
 
 impl<'a> Records<'a> {
-    /// Before the first record.
-    pub(crate) fn new(alloc: Global, text: &'a [u8]) -> Self
-        ensures ended { result.ended ≡ false }
-        ensures state { result.state ≡ st.StartRecord }
-        ensures left { result.left ≡ strip_bom text.now }
-        ensures expected { result.expected ≡ None }
+    /// Before the first record. The reader of the csv crate would keep two copies of the first record as its header, so it
+    /// is given an empty one.
+    pub(crate) fn new(alloc: Global, text: &'a [u8]) -> Result<Self, AllocError>
+        ensures ended { IfOk result (λ r. r.ended ≡ false) }
+        ensures state { IfOk result (λ r. r.state ≡ st.StartRecord) }
+        ensures left { IfOk result (λ r. r.left ≡ strip_bom text.now) }
+        ensures expected { IfOk result (λ r. r.expected ≡ None) }
     {
-        Records {
-            rdr: ReaderBuilder::new()
-                .has_headers(false)
-                .from_reader(alloc, text),
-            row: ByteRecord::new(alloc),
-            ended: false,
+        let mut rdr = ReaderBuilder::new().from_reader(alloc, text);
+        match rdr.set_byte_headers(ByteRecord::new(alloc)) {
+            Ok(()) => Ok(Records {
+                rdr,
+                row: ByteRecord::new(alloc),
+                ended: false,
+            }),
+            Err(_) => Err(AllocError),
         }
     }
 

@@ -1,6 +1,6 @@
 use Rattle.std.proofs.Common.{length}
 use Rattle.csv.specs.Records.{fields_of}
-use Rattle.nf_table.specs.Places.{records_at}
+use Rattle.nf_table.specs.Cursor.{records_at}
 use Rattle.nf_table.specs.Progress.{RowsOn}
 use Rattle.nf_table.proofs.reading.read_rows.Given as goal
 

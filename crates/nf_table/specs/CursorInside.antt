@@ -1,4 +1,4 @@
--- For a proof alone: what `Records` keeps in its fields, and the place in the text that a clause sees of them.
+-- For a proof alone: what `Records` keeps in its fields, and the cursor that a clause sees of them.
 -- The promises of the methods of `Records` rest on it.
 use Rattle.std.specs.Prelude.{◌≡◌, ℕ, List, [], Some, unwrap_or, false}
 use Rattle.std.specs.Borrow.{Bor}
@@ -6,7 +6,7 @@ use Rattle.csv.specs.Reading.{Ready, default_config, expected_len, is_flexible, 
 use Rattle.csv.specs.Records.{fields_of}
 use Rattle.csv.specs.declared.reader.Reader.{Reader}
 use Rattle.csv.specs.declared.reader.Trim.TheVariants as trim
-use Rattle.nf_table.specs.Places.{Place}
+use Rattle.nf_table.specs.Cursor.{Cursor}
 use Rattle.nf_table.specs.declared.records.Records.TheInside.{Inside}
 
 -- The bytes that a reader has left.
@@ -21,10 +21,10 @@ pub record IsReading (r : Reader (Bor (List ℕ))) : Type 0 where
   pub strict : is_flexible r ≡ false
   pub known : source_of (λ s. Some s.now) r ≡ Some (left_of r)
 
--- The place at which it stands.
-abbrev pub place_of : Inside → Place
-place_of a = record { ended = a.ended; state = reader_state a.rdr; left = left_of a.rdr; expected = expected_len a.rdr; cells = fields_of a.row }
+-- Its cursor.
+abbrev pub cursor_of : Inside → Cursor
+cursor_of a = record { ended = a.ended; state = reader_state a.rdr; left = left_of a.rdr; expected = expected_len a.rdr; cells = fields_of a.row }
 
 -- It reads on until a step ended it.
-abbrev pub IsStanding : Inside → Type 0
-IsStanding a = a.ended ≡ false → IsReading a.rdr
+abbrev pub IsReadingOn : Inside → Type 0
+IsReadingOn a = a.ended ≡ false → IsReading a.rdr
