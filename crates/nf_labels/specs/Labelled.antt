@@ -27,4 +27,4 @@ pub record AreFew (l : Inside) : Type 0 where
   pub nodes : length l.nodes ≤ 2 ^ 30
   pub columns : length l.columns ≤ 2 ^ 30
   pub arcs : l.own_arcs ≤ 2 ^ 30
-  pub headers : length l.id_headers ≤ 2 ^ 32 - 1
+  pub headers : length l.id_headers ≤ 2 ^ 29

@@ -6,6 +6,9 @@ use crate::texts::Texts;
 use std::alloc::{AllocError, Global};
 use std::marker::Model;
 
+// So that a table of all of them, and more columns, is within bounds.
+const MOST_ID_COLUMNS: usize = 536_870_912;
+
 /// The names of a problem's nodes, columns and constraints, the nodes' supplies as texts, and the ID columns of ARCDATA:
 /// their headers, and their cells for each arc of ARCDATA.
 ///
@@ -112,14 +115,15 @@ impl Labels {
         Ok(())
     }
 
-    /// Adds an ID column by its header.
+    /// Adds an ID column by its header. There is no memory for more than 2^29 of them.
     pub fn push_id_header(&mut self, name: &[u8]) -> Result<(), AllocError>
-        requires room { length self.old.id_headers < 2 ^ 32 - 1 }
         ensures added { OnOk result (self.new ≡ record self.old { id_headers = self.old.id_headers ++ name.now ∷ [] }) }
         ensures kept { IfErr result (λ _. self.new ≡ self.old) }
     {
-        self.id_headers.push(name)?;
-        Ok(())
+        if self.id_headers.len() >= MOST_ID_COLUMNS {
+            return Err(AllocError);
+        }
+        self.id_headers.push(name)
     }
 
     /// Adds a cell of an ID column: arc by arc, and in an arc header by header.
@@ -175,6 +179,7 @@ impl Labels {
     /// How many ID columns there are.
     pub fn ids(&self) -> u32
         ensures number { result ≡ length self.now.id_headers }
+        ensures few { result ≤ 2 ^ 29 }
     {
         self.id_headers.len() as u32
     }
