@@ -1,0 +1,13 @@
+mod Totals
+mod LinkFacts
+mod PartFacts
+mod ListFacts
+mod Grown
+mod Steps
+mod Adding
+mod Siblings
+mod Agreeing
+mod Spanning
+mod Sides
+mod Unique
+mod OneView
