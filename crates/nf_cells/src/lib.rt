@@ -3,12 +3,12 @@
 
 mod cell;
 mod kept;
-mod name;
+mod name_bytes;
 mod names;
 mod values;
 
 pub use cell::{is_missing, trimmed};
 pub use kept::Name;
-pub use name::{MOST_NAME_BYTES, is_name};
+pub use name_bytes::{MOST_NAME_BYTES, is_name};
 pub use names::Names;
 pub use values::{Bound, Cell, Gives, Supply, amount_cell, bound_cell, name_cell, supply_cell};

@@ -4,7 +4,7 @@ ghost use Rattle.nf_frac.specs.Amounts.{IsAmount};
 ghost use Rattle.nf_cells.specs.Values.{amount_in, as_supply, bound_in, cell_now, may_demand, may_supply, name_in, supply_in};
 
 use crate::cell::{is_missing, trimmed};
-use crate::name::is_name;
+use crate::name_bytes::is_name;
 use nf_frac::{Amount, read_amount};
 
 /// What a cell says.

@@ -2,9 +2,9 @@
 use Rattle.std.proofs.Common.{◌≡◌, ℕ, zero, suc, ◌<◌, Bool, true, false, ◌&&◌, not, nat_eq, get_or, List, refl, arith, inl, inr}
 use Rattle.std.specs.Bool.{beq}
 use Rattle.std.proofs.lemmas.Bool.{cases_eq}
-use Rattle.nf_cells.specs.declared.name.TheConstants.{NAME_BYTES}
+use Rattle.nf_cells.specs.declared.name_bytes.TheConstants.{NAME_BYTES}
 use Rattle.nf_cells.specs.Cells.{is_name_byte}
-use Rattle.nf_cells.proofs.name.is_name_byte_at.Goals as goal
+use Rattle.nf_cells.proofs.name_bytes.is_name_byte_at.Goals as goal
 
 -- the two tests agree below n
 agree_below : (ℕ → Bool) → (ℕ → Bool) → ℕ → Bool
