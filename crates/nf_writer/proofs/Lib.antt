@@ -3,5 +3,7 @@ pub mod Spellings
 pub mod Numbers
 pub mod Canon
 pub mod Names
+pub mod Apart
 pub mod Writable
+pub mod OptionTexts
 pub mod Written

@@ -33,7 +33,9 @@ use Rattle.nf_writer.proofs.Spellings.{statement_spelled, option_spelled, print_
 use Rattle.nf_writer.proofs.Numbers.{count_number, count_digits, count_short, count_value, amount_number, amount_back}
 use Rattle.nf_writer.proofs.Names.{Quotable, Writable, plain_word, quoted_piece, inside_quotes, node_quotable, column_writable}
 use Rattle.nf_writer.proofs.Canon.{settings_distinct, settings_make}
-use Rattle.nf_writer.proofs.Writable.{SetOk, SettingOk, SettingsOk, ArePieces, pieces_front, pieces_back, settings_ok, ProcOk, options_ok, proc_settings_ok, settings_apart, SetsAreText, sets_text, HasAmounts, options_have_amounts}
+use Rattle.nf_writer.proofs.Apart.{settings_apart}
+use Rattle.nf_writer.proofs.Writable.{SetOk, SettingOk, SettingsOk, ArePieces, pieces_front, pieces_back, settings_ok, ProcOk, options_ok, proc_settings_ok}
+use Rattle.nf_writer.proofs.OptionTexts.{SetsAreText, sets_text, HasAmounts, options_have_amounts}
 
 -- ---- the pieces are a cut of the text
 
