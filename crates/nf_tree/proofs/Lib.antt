@@ -1,0 +1,13 @@
+pub mod Keys
+pub mod RootedTrees
+pub mod Connected
+pub mod Accumulate
+pub mod Vertices
+pub mod Depths
+pub mod Paths
+pub mod Priced
+pub mod Slotted
+pub mod Passing
+pub mod Planted
+pub mod Gathered
+pub mod Settled

@@ -1,0 +1,50 @@
+// The keys of a tree, put into the slots of their nodes.
+ghost use Rattle.std.specs.Prelude.{◌≡◌, ℕ, suc, ◌<◌, length, slice_index};
+ghost use Rattle.nf_model.specs.Program.{at};
+ghost use Rattle.nf_basis.specs.Numbers.{in_slot};
+
+use crate::ends::{column_in, number_in};
+use nf_basis::Col;
+use nf_frac::Frac;
+
+/// Copies the columns in the slots, and their values.
+pub(crate) fn copy(slots: &[Col], values: &[Frac], keys: &mut Vec<Col>, work: &mut Vec<Frac>)
+    requires columns { length keys.old.items ≡ length slots.now }
+    requires numbers { length work.old.items ≡ length slots.now }
+    requires values { length values.now ≡ length slots.now }
+    ensures long_keys { length keys.new.items ≡ length slots.now }
+    ensures long_work { length work.new.items ≡ length slots.now }
+    ensures keys { (q : ℕ) → q < length slots.now → in_slot keys.new.items q ≡ in_slot slots.now q }
+    ensures work { (q : ℕ) → q < length slots.now → at work.new.items q ≡ at values.now q }
+{
+    for q in 0..slots.len() {
+        keys[q] = column_in(slots, q);
+        work[q] = number_in(values, q);
+    }
+}
+
+/// Puts each node's key into the slot of the node.
+pub(crate) fn arrange(keys: &[Col], key: &[usize], slots: &mut Vec<Col>)
+    requires places { length key.now ≡ suc (length keys.now) }
+    requires within { (i : ℕ) → i < length keys.now → slice_index key.now (suc i) < length keys.now }
+    requires slots { length slots.old.items ≡ length keys.now }
+    ensures long { length slots.new.items ≡ length keys.now }
+    ensures slots { (i : ℕ) → i < length keys.now → in_slot slots.new.items i ≡ in_slot keys.now (slice_index key.now (suc i)) }
+{
+    for i in 0..keys.len() {
+        slots[i] = column_in(keys, key[i + 1]);
+    }
+}
+
+/// Puts the number of each node's key into the slot of the node.
+pub(crate) fn arrange_numbers(numbers: &[Frac], key: &[usize], values: &mut Vec<Frac>)
+    requires places { length key.now ≡ suc (length numbers.now) }
+    requires within { (i : ℕ) → i < length numbers.now → slice_index key.now (suc i) < length numbers.now }
+    requires values { length values.old.items ≡ length numbers.now }
+    ensures long { length values.new.items ≡ length numbers.now }
+    ensures values { (i : ℕ) → i < length numbers.now → at values.new.items i ≡ at numbers.now (slice_index key.now (suc i)) }
+{
+    for i in 0..numbers.len() {
+        values[i] = number_in(numbers, key[i + 1]);
+    }
+}

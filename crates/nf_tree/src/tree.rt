@@ -1,0 +1,355 @@
+//! The tree of a state of stage one.
+ghost use Rattle.std.specs.Prelude.{◌≡◌, ◌≢◌, ℕ, suc, ◌+◌, ◌-◌, ◌*◌, ◌<◌, ◌≤◌, length, slice_index_or, IfOk, IfErr};
+ghost use Rattle.nf_model.specs.Program.{at};
+ghost use Rattle.nf_sums.specs.Terms.{PassesIn};
+ghost use Rattle.nf_simplex.specs.StageOf.{StageOne};
+ghost use Rattle.nf_simplex.specs.Standing.{costs_of};
+ghost use Rattle.nf_basis.specs.Names.{phase_of};
+ghost use Rattle.nf_basis.specs.Kept.{IsPresent, IsStateOf};
+ghost use Rattle.nf_basis.specs.Numbers.{AreDualsByRow, AreInverseWeights, AreSlotsBelow, IsInverseColumnBySlot, in_slot, slot_number};
+ghost use Rattle.nf_basis.specs.Arising.{StateTerms};
+ghost use Rattle.nf_basis.specs.Dense.{HasBasics};
+ghost use Rattle.nf_tree.specs.Held.{HasRoom, HoldsTree};
+
+use crate::ends::column_in;
+use crate::moving::{entries_of, exchange, shift};
+use crate::path::path_between;
+use crate::plant::{arrange, arrange_numbers, copy};
+use crate::potentials::potentials;
+use crate::span::Span;
+use nf_basis::{
+    Basis, Col, Phase, Place, RestoreFault, State, bound, cost, list_basics, other_bound, refusal,
+    value_in_slot,
+};
+use nf_frac::{Frac, Passed, Steps};
+use nf_links::Links;
+use nf_prob::Problem;
+use std::alloc::Global;
+use std::sync::ledger::Ledger;
+
+/// A basis of stage one as a spanning tree over the nodes and a root: an arc joins its ends, and an artificial its node
+/// with the root. Slot i has the column between node i + 1 and its predecessor. The links are made anew after each pivot.
+/// Its unit is `16 * (m + 1)` for m rows.
+#[derive(Drop)]
+pub struct Tree {
+    pub(crate) state: State,
+    pub(crate) slots: Vec<Col>,
+    // Of the basic columns, by slot.
+    pub(crate) values: Vec<Frac>,
+    pub(crate) span: Span,
+    pub(crate) keys: Vec<Col>,
+    pub(crate) work: Vec<Frac>,
+}
+
+// The costs of the columns in the slots.
+fn cost_all(p: &Problem, state: &State, slots: &[Col], phase: Phase, out: &mut Vec<Frac>)
+    requires state { IsStateOf p.now state.now }
+    requires present { (k : ℕ) → k < length slots.now → IsPresent p.now state.now.standing (in_slot slots.now k) }
+    requires places { length out.old.items ≡ length slots.now }
+    ensures long { length out.new.items ≡ length out.old.items }
+    ensures costs { (i : ℕ) → i < length slots.now → at out.new.items i ≡ costs_of p.now (phase_of phase) (slot_number p.now slots.now i) }
+{
+    for i in 0..slots.len() {
+        let col = column_in(slots, i);
+        out[i] = cost(p, state, col, phase);
+    }
+}
+
+// The numbers of the chosen slots.
+fn pick(numbers: &[Frac], chosen: &[u32], out: &mut [Frac])
+    requires chosen { AreSlotsBelow (length numbers.now) chosen.now }
+    requires places { length out.old ≡ length chosen.now }
+    ensures { (k : ℕ) → k < length chosen.now → at out.new k ≡ at numbers.now (slice_index_or chosen.now k 0) }
+{
+    for k in 0..chosen.len() {
+        out[k] = numbers[chosen[k] as usize];
+    }
+}
+
+impl Tree {
+    /// The links of the tree.
+    pub fn links(&self) -> &Links
+        ensures { result.now ≡ self.now.span.grove.links }
+    {
+        &self.span.grove.links
+    }
+
+    // Makes the tree of the columns in the slots, and puts each into the slot of its node.
+    pub(crate) fn replant<L: Ledger>(&mut self, p: &Problem, steps: &mut Steps<L>)
+        requires state { IsStateOf p.now self.old.state }
+        requires stage { self.old.state.standing.stage ≡ StageOne }
+        requires held { HasBasics p.now self.old.state.standing self.old.slots.items self.old.values.items }
+        requires room { HasRoom p.now.nodes self.old }
+        ensures numbers { HoldsTree p.now self.new }
+        ensures state { self.new.state ≡ self.old.state }
+        ensures cost { steps.new ≤ steps.old + 32 * suc p.now.nodes }
+    {
+        copy(
+            self.slots.as_slice(),
+            self.values.as_slice(),
+            &mut self.keys,
+            &mut self.work,
+        );
+        let _joined = self
+            .span
+            .rebuild(p, &self.state, self.keys.as_slice(), steps);
+        let key = self.span.grove.key.as_slice();
+        arrange(self.keys.as_slice(), key, &mut self.slots);
+        arrange_numbers(self.work.as_slice(), key, &mut self.values);
+    }
+
+    // The inverse column of a row, which counts from 1: the path from its node to the root.
+    pub(crate) fn root_path<L: Ledger>(
+        &self,
+        p: &Problem,
+        row: u32,
+        out: &mut [Frac],
+        steps: &mut Steps<L>,
+    )
+        requires numbers { HoldsTree p.now self.now }
+        requires present { (0 < row) × (row ≤ p.now.nodes) }
+        requires places { length out.old ≡ p.now.nodes }
+        ensures weights { IsInverseColumnBySlot p.now self.now.state.standing self.now.slots.items row out.new }
+        ensures cost { steps.new ≤ steps.old + 6 * p.now.nodes + 2 }
+    {
+        path_between(
+            p,
+            &self.state,
+            self.slots.as_slice(),
+            self.span.grove.order.as_slice(),
+            &self.span.grove.links,
+            row,
+            0,
+            out,
+            steps,
+        );
+    }
+
+    // The weights of chosen slots in an inverse column.
+    pub(crate) fn root_weights<L: Ledger>(
+        &mut self,
+        p: &Problem,
+        row: u32,
+        chosen: &[u32],
+        out: &mut [Frac],
+        steps: &mut Steps<L>,
+    )
+        requires numbers { HoldsTree p.now self.old }
+        requires present { (0 < row) × (row ≤ p.now.nodes) }
+        requires chosen { AreSlotsBelow p.now.nodes chosen.now }
+        requires places { length out.old ≡ length chosen.now }
+        ensures numbers { HoldsTree p.now self.new }
+        ensures state { self.new.state ≡ self.old.state }
+        ensures slots { self.new.slots.items ≡ self.old.slots.items }
+        ensures values { self.new.values.items ≡ self.old.values.items }
+        ensures weights { AreInverseWeights p.now self.old.state.standing self.old.slots.items row chosen.now out.new }
+        ensures cost { steps.new ≤ steps.old + 6 * p.now.nodes + 2 }
+    {
+        path_between(
+            p,
+            &self.state,
+            self.slots.as_slice(),
+            self.span.grove.order.as_slice(),
+            &self.span.grove.links,
+            row,
+            0,
+            self.work.as_mut_slice(),
+            steps,
+        );
+        pick(self.work.as_slice(), chosen, out);
+    }
+
+    // The duals of a phase, by row: the potentials for its costs.
+    pub(crate) fn price_all<L: Ledger>(
+        &mut self,
+        p: &Problem,
+        phase: Phase,
+        out: &mut [Frac],
+        steps: &mut Steps<L>,
+    ) -> Result<(), Passed>
+        requires numbers { HoldsTree p.now self.old }
+        requires places { length out.old ≡ p.now.nodes }
+        ensures numbers { HoldsTree p.now self.new }
+        ensures state { self.new.state ≡ self.old.state }
+        ensures slots { self.new.slots.items ≡ self.old.slots.items }
+        ensures values { self.new.values.items ≡ self.old.values.items }
+        ensures duals { IfOk result (λ _. AreDualsByRow p.now self.old.state.standing phase out.new) }
+        ensures passed { IfErr result (PassesIn (StateTerms p.now self.old.state.standing)) }
+        ensures cost { steps.new ≤ steps.old + 2 * p.now.nodes }
+    {
+        cost_all(p, &self.state, self.slots.as_slice(), phase, &mut self.work);
+        potentials(
+            p,
+            &self.state,
+            self.slots.as_slice(),
+            self.span.grove.order.as_slice(),
+            &self.span.grove.links,
+            self.work.as_slice(),
+            out,
+            steps,
+        )?;
+        Ok(())
+    }
+}
+
+impl Basis for Tree {
+    ghost use Rattle.std.specs.Prelude.{◌≡◌};
+    ghost use Rattle.nf_basis.specs.Dense.{spread_values};
+    ghost use Rattle.nf_simplex.specs.StageOf.{StageOne};
+    ghost use Rattle.nf_tree.specs.Held.{HoldsTree, tree_unit};
+
+    ghost standing = { λ b. b.state.standing };
+
+    ghost slots = { λ b. b.slots.items };
+
+    ghost values = { λ p b. spread_values p b.state.standing b.slots.items b.values.items };
+
+    ghost HasNumbers = { HoldsTree };
+
+    ghost Takes = { λ p n. n ≡ StageOne };
+
+    ghost unit = { tree_unit };
+
+    ghost sound = { λ p b h. record { problem = h.state.problem; state = h.state.fits; basis = h.held.basis; listed = h.held.listed; values = h.held.values } };
+
+    // If the basic columns do not join all vertices, a load by exchanges finds the first dependent one.
+    fn restore<L: Ledger>(
+        alloc: Global,
+        p: &Problem,
+        state: State,
+        steps: &mut Steps<L>,
+    ) -> Result<Self, RestoreFault> {
+        let keys = list_basics(alloc, p, &state)?;
+        let mut tree = Tree::with_keys(alloc, p, state, keys)?;
+        if !tree.join(p, steps) {
+            return Err(refusal(alloc, p, &tree.state, steps));
+        }
+        tree.settle(p, steps)?;
+        Ok(tree)
+    }
+
+    fn state(&self) -> &State {
+        &self.state
+    }
+
+    fn basic_at(&self, slot: u32) -> Col {
+        self.slots[slot as usize]
+    }
+
+    fn value(&self, p: &Problem, col: Col) -> Frac {
+        match self.state.place(col) {
+            Place::Lower => bound(p, &self.state, col, Place::Lower),
+            Place::Upper => bound(p, &self.state, col, Place::Upper),
+            Place::Zero => Frac::zero(),
+            Place::Basic => value_in_slot(self.slots.as_slice(), self.values.as_slice(), col),
+            // No present column is absent.
+            Place::Absent => Frac::zero(),
+        }
+    }
+
+    fn column<L: Ledger>(
+        &mut self,
+        p: &Problem,
+        col: Col,
+        out: &mut [Frac],
+        steps: &mut Steps<L>,
+    ) -> Result<(), Passed> {
+        entries_of(
+            p,
+            &self.state,
+            self.slots.as_slice(),
+            self.values.as_slice(),
+            self.span.grove.order.as_slice(),
+            &self.span.grove.links,
+            col,
+            out,
+            steps,
+        );
+        Ok(())
+    }
+
+    fn duals<L: Ledger>(
+        &mut self,
+        p: &Problem,
+        phase: Phase,
+        out: &mut [Frac],
+        steps: &mut Steps<L>,
+    ) -> Result<(), Passed> {
+        self.price_all(p, phase, out, steps)
+    }
+
+    fn inverse_column<L: Ledger>(
+        &mut self,
+        p: &Problem,
+        row: u32,
+        out: &mut [Frac],
+        steps: &mut Steps<L>,
+    ) -> Result<(), Passed> {
+        self.root_path(p, row, out, steps);
+        Ok(())
+    }
+
+    fn inverse_weights<L: Ledger>(
+        &mut self,
+        p: &Problem,
+        row: u32,
+        chosen: &[u32],
+        out: &mut [Frac],
+        steps: &mut Steps<L>,
+    ) -> Result<(), Passed> {
+        self.root_weights(p, row, chosen, out, steps);
+        Ok(())
+    }
+
+    fn pivot<L: Ledger>(
+        &mut self,
+        p: &Problem,
+        entering: Col,
+        slot: u32,
+        to: Place,
+        steps: &mut Steps<L>,
+    ) -> Result<(), Passed> {
+        let at = slot as usize;
+        exchange(
+            p,
+            &self.state,
+            self.slots.as_slice(),
+            self.span.grove.order.as_slice(),
+            &self.span.grove.links,
+            self.values.as_mut_slice(),
+            self.work.as_mut_slice(),
+            entering,
+            at,
+            to,
+            steps,
+        )?;
+        let leaving = self.slots[at];
+        self.state.set_place(p, entering, Place::Basic);
+        self.state.set_place(p, leaving, to);
+        self.slots[at] = entering;
+        self.replant(p, steps);
+        Ok(())
+    }
+
+    fn flip<L: Ledger>(
+        &mut self,
+        p: &Problem,
+        entering: Col,
+        steps: &mut Steps<L>,
+    ) -> Result<(), Passed> {
+        shift(
+            p,
+            &self.state,
+            self.slots.as_slice(),
+            self.span.grove.order.as_slice(),
+            &self.span.grove.links,
+            self.values.as_mut_slice(),
+            self.work.as_mut_slice(),
+            entering,
+            steps,
+        )?;
+        let to = other_bound(self.state.place(entering));
+        self.state.set_place(p, entering, to);
+        Ok(())
+    }
+}
