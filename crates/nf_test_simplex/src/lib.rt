@@ -13,6 +13,8 @@ mod restored;
 #[cfg(test)]
 mod start;
 #[cfg(test)]
+mod trees;
+#[cfg(test)]
 mod walks;
 #[cfg(test)]
 mod widened;

@@ -20,7 +20,7 @@ use std::test::Fail;
 
 // Arcs 1 and 2 from node 1, which has the supply 5, to node 2, with the costs 1 and 3; three times the flow of arc 1 is at
 // most 7.
-fn problem(alloc: Global) -> Result<Problem, Fail> {
+pub(crate) fn with_side_row(alloc: Global) -> Result<Problem, Fail> {
     let (zero, five) = (Frac::zero(), Frac::from_whole(5));
     let mut builder = ProblemBuilder::new(alloc, false);
     builder.add_node(five)?;
@@ -76,7 +76,12 @@ fn basic_count(p: &Problem, state: &State) -> usize
 }
 
 // The state of a stage with these columns basic, where they are as many as its rows.
-fn with_basics(alloc: Global, p: &Problem, stage: u8, basics: &[Col]) -> Result<State, Fail>
+pub(crate) fn with_basics(
+    alloc: Global,
+    p: &Problem,
+    stage: u8,
+    basics: &[Col],
+) -> Result<State, Fail>
     requires { (0 < stage) × (stage ≤ 2) }
     ensures state { IfOk result (IsStateOf p.now) }
     ensures as_many { IfOk result (λ s. count_basic (all_columns (layout_of p.now)) (place_at s.standing) ≡ rows_of p.now s.standing) }
@@ -109,7 +114,7 @@ fn restored<L: Ledger>(
     requires some { 0 < blank.parts }
 {
     let mut steps = Steps::<L>::new(blank);
-    let p = problem(alloc)?;
+    let p = with_side_row(alloc)?;
     let state = with_basics(alloc, &p, stage, basics)?;
     match DenseBasis::restore(alloc, &p, state, &mut steps) {
         Ok(basis) => {

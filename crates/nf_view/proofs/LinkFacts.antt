@@ -57,7 +57,7 @@ module _ (p : LinearProgram) (s : Standing) (k : ℕ) where
       let t2 : is_basic (place_of p s (Given k)) ≡ false = ap (λ x. is_basic (place_of p s (Given x))) (sym back) ∙ t in
       subst (λ x. links ≡ basic_arcs p s x) next (l ∙ (sym (append-nil (basic_arcs p s k)) ∙ sym (arcs_in p s k false t2)))
 
-  -- The same of an artificial, behind the arcs.
+  -- The same of an artificial, after the arcs.
   pub root_pushed : (front links : List Link) → links ≡ front ++ basic_roots p s k → is_basic (place_of p s (Artificial (k + 1 - 1))) ≡ true
       → links ++ record { arc = 0; «from» = 0; to = k + 1 } ∷ [] ≡ front ++ basic_roots p s (k + 1)
   root_pushed front links l t =

@@ -58,24 +58,24 @@ module _ (n : ℕ) (pred pred' rank : ℕ → ℕ) (within : (v : ℕ) → 0 < v
   }
 
   module _ (next next' : ℕ → ℕ) (x : IsPreorder n pred next) (y : IsPreorder n pred' next') where
-    same_behind : (fuel v : ℕ) → rank v < fuel → v ≤ n → x.behind v ≡ y.behind v
-    same_behind zero v f h = absurd (omega arith)
-    same_behind (suc fuel) v f h = of v f h (λ u g k. same_behind fuel u g k)
+    same_after : (fuel v : ℕ) → rank v < fuel → v ≤ n → x.after v ≡ y.after v
+    same_after zero v f h = absurd (omega arith)
+    same_after (suc fuel) v f h = of v f h (λ u g k. same_after fuel u g k)
       where
-        of : (v : ℕ) → rank v < suc fuel → v ≤ n → ((u : ℕ) → rank u < fuel → u ≤ n → x.behind u ≡ y.behind u) → x.behind v ≡ y.behind v
+        of : (v : ℕ) → rank v < suc fuel → v ≤ n → ((u : ℕ) → rank u < fuel → u ≤ n → x.after u ≡ y.after u) → x.after v ≡ y.after v
         of zero f h rest = x.last ∙ sym y.last
         of (suc v) f h rest =
             let (c, z) = next_child n pred (pred (suc v)) n (suc v) (omega arith) in
             let p = same (suc v) (omega arith) h in
             let l = falls (suc v) (omega arith) h in
             x.sideways (suc v) c (omega arith) h z
-            ∙ (ap (λ b. if c == 0 then b else c) (rest (pred (suc v)) (omega arith) (within (suc v) (omega arith) h) ∙ ap y.behind (sym p))
+            ∙ (ap (λ b. if c == 0 then b else c) (rest (pred (suc v)) (omega arith) (within (suc v) (omega arith) h) ∙ ap y.after (sym p))
             ∙ sym (y.sideways (suc v) c (omega arith) h (subst (λ u. IsNextChild n pred' u (suc v) c) (sym p) (also_child (pred (suc v)) (suc v) c z))))
 
     pub same_next : (v : ℕ) → v ≤ n → next v ≡ next' v
     same_next v h =
         let (c, z) = next_child n pred v n 0 (omega arith) in
-        x.downwards v c h z ∙ (ap (λ b. if c == 0 then b else c) (same_behind (suc (rank v)) v (omega arith) h) ∙ sym (y.downwards v c h (also_child v 0 c z)))
+        x.downwards v c h z ∙ (ap (λ b. if c == 0 then b else c) (same_after (suc (rank v)) v (omega arith) h) ∙ sym (y.downwards v c h (also_child v 0 c z)))
 
   module _ (size size' : ℕ → ℕ) (x : AreSizes n pred size) (y : AreSizes n pred' size') where
     same_below : (m : ℕ) → ((v : ℕ) → v ≤ n → rank v ≤ m) → (fuel v : ℕ) → m - rank v < fuel → v ≤ n → size v ≡ size' v
@@ -115,10 +115,10 @@ module _ (p : LinearProgram) (s t : Standing) (b : HaveSameBasics p s t) where
   same_keys = ap₂ (λ xs ys. both_ways (kept_from (λ v. v) (xs ++ ys))) (same_arcs p.arcs) (same_roots p.nodes)
 
 -- Two lists that are equal after their first place.
-same_after : (n : ℕ) (xs ys : List ℕ) → length xs ≡ suc n → length ys ≡ suc n → ((v : ℕ) → 0 < v → v ≤ n → get_or xs v 0 ≡ get_or ys v 0) → drop 1 xs ≡ drop 1 ys
-same_after n [] ys l m h = absurd (omega arith)
-same_after n (x ∷ xs) [] l m h = absurd (omega arith)
-same_after n (x ∷ xs) (y ∷ ys) l m h = ext_get_or 0 xs ys (omega arith) (λ i g. h (suc i) (omega arith) (omega arith))
+same_rest : (n : ℕ) (xs ys : List ℕ) → length xs ≡ suc n → length ys ≡ suc n → ((v : ℕ) → 0 < v → v ≤ n → get_or xs v 0 ≡ get_or ys v 0) → drop 1 xs ≡ drop 1 ys
+same_rest n [] ys l m h = absurd (omega arith)
+same_rest n (x ∷ xs) [] l m h = absurd (omega arith)
+same_rest n (x ∷ xs) (y ∷ ys) l m h = ext_get_or 0 xs ys (omega arith) (λ i g. h (suc i) (omega arith) (omega arith))
 
 pub same_basics_same_view : SameBasicsSameView
 same_basics_same_view p s s' t t' b x y =
@@ -129,10 +129,10 @@ same_basics_same_view p s s' t t' b x y =
     let ry = y.tree.rooted in
     let one = same_pred p.nodes (kept_from (λ v. v) (basic_links p s')) (λ v. v) (cut (λ v. v) (basic_links p s')) (λ v. get_or t.pred.items v 0) (λ v. get_or t.arc.items v 0) (λ v. get_or t'.pred.items v 0) (λ v. get_or t'.arc.items v 0) rx ry in
     record {
-      preds = same_after p.nodes t.pred.items t'.pred.items x.vertices.preds y.vertices.preds (λ v a h. sym (one v a h).0);
-      nexts = same_after p.nodes t.next.items t'.next.items x.vertices.nexts y.vertices.nexts
+      preds = same_rest p.nodes t.pred.items t'.pred.items x.vertices.preds y.vertices.preds (λ v a h. sym (one v a h).0);
+      nexts = same_rest p.nodes t.next.items t'.next.items x.vertices.nexts y.vertices.nexts
           (λ v a h. same_next p.nodes (λ v. get_or t.pred.items v 0) (λ v. get_or t'.pred.items v 0) rx.rank rx.within rx.falls (λ v a h. (one v a h).0) (λ v. get_or t.next.items v 0) (λ v. get_or t'.next.items v 0) x.tree.preorder y.tree.preorder v h);
-      sizes = same_after p.nodes t.size.items t'.size.items x.vertices.sizes y.vertices.sizes
+      sizes = same_rest p.nodes t.size.items t'.size.items x.vertices.sizes y.vertices.sizes
           (λ v a h. same_size p.nodes (λ v. get_or t.pred.items v 0) (λ v. get_or t'.pred.items v 0) rx.rank rx.within rx.falls (λ v a h. (one v a h).0) (λ v. get_or t.size.items v 0) (λ v. get_or t'.size.items v 0) x.tree.sizes y.tree.sizes v h);
-      arcs = same_after p.nodes t.arc.items t'.arc.items x.vertices.arcs y.vertices.arcs (λ v a h. sym (one v a h).1);
+      arcs = same_rest p.nodes t.arc.items t'.arc.items x.vertices.arcs y.vertices.arcs (λ v a h. sym (one v a h).1);
     }

@@ -1,5 +1,5 @@
 -- The key columns of a state: a spanning tree over the nodes and the root, chosen among the basic columns by number.
--- The tree view is said by them alone. The root is vertex 0, and the node with number i is vertex i.
+-- They define the tree view. The root is vertex 0, and the node with number i is vertex i.
 use Rattle.std.specs.Prelude.{◌≡◌, ℕ, zero, suc, ◌<◌, ◌≤◌, ◌==◌, Bool, true, false, List, [], ◌∷◌, ◌++◌, length, slice_index_or, min, max, if◌then◌else◌}
 use Rattle.nf_model.specs.Program.{LinearProgram, column}
 use Rattle.nf_prob.specs.Numbers.{tail_number, head_number}

@@ -3,7 +3,7 @@
 use Rattle.std.specs.Prelude.{◌≡◌, ◌≢◌, ℕ, suc, ◌<◌, ◌≤◌, ◌==◌, List, length, slice_index, if◌then◌else◌}
 use Rattle.nf_view.specs.View.{IsNextChild}
 
--- The order has each of the vertices 0 to n once, the root first, and each node behind its predecessor.
+-- The order has each of the vertices 0 to n once, the root first, and each node after its predecessor.
 pub record IsOrder (n : ℕ) (pred order : ℕ → ℕ) : Type 0 where
   pub first : order 0 ≡ 0
   pub within : (k : ℕ) → k ≤ n → order k ≤ n
@@ -22,8 +22,8 @@ pub record HasChildren (n : ℕ) (pred : ℕ → ℕ) (first sibling : List ℕ)
   pub siblings : length sibling ≡ suc n
   pub linked : AreSiblings n pred (slice_index first) (slice_index sibling) k
 
--- What comes behind the subtree of v, and behind v alone, is known.
-pub record IsThreaded (pred first sibling behind next : ℕ → ℕ) (v : ℕ) : Type 0 where
-  pub root : v ≡ 0 → behind v ≡ 0
-  pub sideways : 0 < v → behind v ≡ (if sibling v == 0 then behind (pred v) else sibling v)
-  pub downwards : next v ≡ (if first v == 0 then behind v else first v)
+-- What comes after the subtree of v, and after v itself, is known.
+pub record IsThreaded (pred first sibling after next : ℕ → ℕ) (v : ℕ) : Type 0 where
+  pub root : v ≡ 0 → after v ≡ 0
+  pub sideways : 0 < v → after v ≡ (if sibling v == 0 then after (pred v) else sibling v)
+  pub downwards : next v ≡ (if first v == 0 then after v else first v)

@@ -15,7 +15,7 @@ where_same p v x = cond (p == v) x 0
 abbrev pub AreSizes : (n : ℕ) (pred size : ℕ → ℕ) → Type 0
 AreSizes n pred size = (v : ℕ) → v ≤ n → size v ≡ 1 + total n (λ i. where_same (pred (suc i)) v (size (suc i)))
 
--- The vertices of the order behind place k were added to their predecessors, and the others count all vertices.
+-- The vertices of the order after place k were added to their predecessors, and the others count all vertices.
 pub record AreSummed (n : ℕ) (pred order size : ℕ → ℕ) (k : ℕ) : Type 0 where
   pub sums : (v : ℕ) → v ≤ n → size v ≡ 1 + total (n - k) (λ r. where_same (pred (order (n - r))) v (size (order (n - r))))
   pub whole : total (suc k) (λ i. size (order i)) ≡ suc n

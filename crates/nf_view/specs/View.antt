@@ -21,14 +21,14 @@ pub record IsNextChild (n : ℕ) (pred : ℕ → ℕ) (v k c : ℕ) : Type 0 whe
   pub child : 0 < c → (k < c) × (c ≤ n) × (pred c ≡ v)
   pub least : (w : ℕ) → k < w → w ≤ n → pred w ≡ v → (0 < c) × (c ≤ w)
 
--- The preorder from the root with children by number. Behind the subtree of a node comes its next sibling, or if it has
--- none what comes behind the subtree of its predecessor; behind that of the root comes nothing. Behind a node alone comes
--- its first child, or if it has none what comes behind its subtree.
+-- The preorder from the root with children by number. After the subtree of a node comes its next sibling, or if it has
+-- none what comes after the subtree of its predecessor; after that of the root comes nothing. After a node itself comes
+-- its first child, or if it has none what comes after its subtree.
 pub record IsPreorder (n : ℕ) (pred next : ℕ → ℕ) : Type 0 where
-  pub behind : ℕ → ℕ
-  pub last : behind 0 ≡ 0
-  pub sideways : (v c : ℕ) → 0 < v → v ≤ n → IsNextChild n pred (pred v) v c → behind v ≡ (if c == 0 then behind (pred v) else c)
-  pub downwards : (v c : ℕ) → v ≤ n → IsNextChild n pred v 0 c → next v ≡ (if c == 0 then behind v else c)
+  pub after : ℕ → ℕ
+  pub last : after 0 ≡ 0
+  pub sideways : (v c : ℕ) → 0 < v → v ≤ n → IsNextChild n pred (pred v) v c → after v ≡ (if c == 0 then after (pred v) else c)
+  pub downwards : (v c : ℕ) → v ≤ n → IsNextChild n pred v 0 c → next v ≡ (if c == 0 then after v else c)
 
 -- The tree of these links over the root and the nodes 1 to n.
 pub record IsTree (n : ℕ) (links : List Link) (pred next size arc : ℕ → ℕ) : Type 0 where

@@ -52,7 +52,7 @@ pub record IsWalk (n : ℕ) (links : List Link) (w : Walk) : Type 0 where
   pub room : HasRoom n w
   pub grown : IsGrown n links (slice_index w.seat.items) (slice_index w.order.items) (slice_index w.pred.items) (slice_index w.arc.items) w.met
 
--- What was met keeps its seat, and what is new comes behind it.
+-- What was met keeps its seat, and what is new comes after it.
 pub record Keeps (old new : Walk) : Type 0 where
   pub more : old.met ≤ new.met
   pub met_stays : (v : ℕ) → 0 < slice_index old.seat.items v → slice_index new.seat.items v ≡ slice_index old.seat.items v

@@ -1,10 +1,10 @@
 //! The tree view of a state: the spanning tree of its key columns, and each node's place in it.
 #![tactic(auto)]
 
-mod finish;
 mod links;
 mod listed;
 mod parts;
+mod subtrees;
 mod view;
 mod walk;
 

@@ -5,9 +5,9 @@ ghost use Rattle.nf_basis.specs.Kept.{IsStateOf};
 ghost use Rattle.nf_view.specs.Laws.{SameBasicsSameView};
 ghost use Rattle.nf_view.specs.View.{IsTreeView};
 
-use crate::finish::{string, weigh};
 use crate::links::list_links;
 use crate::parts::keep;
+use crate::subtrees::{next_in_preorder, subtree_sizes};
 use crate::walk::grow;
 use nf_basis::State;
 use nf_prob::Problem;
@@ -19,7 +19,7 @@ use std::alloc::{AllocError, Global};
 pub struct TreeView {
     /// The predecessor.
     pub pred: Vec<u32>,
-    /// The next node in the preorder from the root with children by number, and 0 behind the last.
+    /// The next node in the preorder from the root with children by number, and 0 after the last.
     pub next: Vec<u32>,
     /// How many vertices are in the subtree, itself among them.
     pub size: Vec<u32>,
@@ -84,8 +84,8 @@ pub fn tree_view(alloc: Global, p: &Problem, state: &State) -> Result<TreeView, 
     let links = list_links(alloc, p, state)?;
     let keys = keep(alloc, n, links.as_slice())?;
     let walk = grow(alloc, n, keys.as_slice())?;
-    let size = weigh(alloc, n, walk.pred.as_slice(), walk.order.as_slice())?;
-    let next = string(alloc, n, walk.pred.as_slice(), walk.order.as_slice())?;
+    let size = subtree_sizes(alloc, n, walk.pred.as_slice(), walk.order.as_slice())?;
+    let next = next_in_preorder(alloc, n, walk.pred.as_slice(), walk.order.as_slice())?;
     Ok(TreeView {
         pred: walk.pred,
         next,

@@ -24,7 +24,7 @@ pub(crate) struct Walk {
     pub met: usize,
 }
 
-// Room for the vertices 0 to n, and the root alone met.
+// Room for the vertices 0 to n, and only the root met.
 fn begin(alloc: Global, n: u32, links: &[Link]) -> Result<Walk, AllocError>
     requires few { n < 2 ^ 31 }
     ensures walk { IfOk result (IsWalk n links.now) }

@@ -1,4 +1,4 @@
-// What the walk leaves to be done: sizes, siblings, and the preorder.
+// Subtrees: their sizes, siblings by number, and the preorder.
 ghost use Rattle.std.specs.Prelude.{◌≡◌, ◌==◌, ℕ, suc, ◌<◌, ◌≤◌, ◌^◌, length, slice_index, if◌then◌else◌, IfOk};
 ghost use Rattle.nf_view.specs.Order.{HasChildren, IsOrder};
 ghost use Rattle.nf_view.specs.Sizes.{AreSizes};
@@ -7,7 +7,7 @@ ghost use Rattle.nf_view.specs.View.{IsPreorder};
 use std::alloc::{AllocError, Global};
 
 // The sizes of the subtrees: from the last vertex of the order to the first, each is added to its predecessor.
-pub(crate) fn weigh(
+pub(crate) fn subtree_sizes(
     alloc: Global,
     n: u32,
     pred: &[u32],
@@ -51,8 +51,8 @@ fn link_children(alloc: Global, n: u32, pred: &[u32]) -> Result<Children, AllocE
     let mut w = n;
     while w > 0 {
         let before = pred[w as usize] as usize;
-        let behind = first[before];
-        sibling[w as usize] = behind;
+        let later = first[before];
+        sibling[w as usize] = later;
         first[before] = w;
         w -= 1;
     }
@@ -66,8 +66,8 @@ fn or_else(c: u32, other: u32) -> u32
     if c == 0 { other } else { c }
 }
 
-// What comes behind each vertex: what is behind its subtree is found along the order, in which its predecessor stands
-// before it.
+// What comes after each vertex: what comes after its subtree is found along the order, in which its predecessor is before
+// it.
 fn thread(
     alloc: Global,
     n: u32,
@@ -83,22 +83,22 @@ fn thread(
     ensures room { IfOk result (λ next. length next.items ≡ suc n) }
     ensures preorder { IfOk result (λ next. IsPreorder n (slice_index pred.now) (slice_index next.items)) }
 {
-    let mut behind = vec![in alloc; 0; n as usize + 1]?;
+    let mut after = vec![in alloc; 0; n as usize + 1]?;
     let mut next = vec![in alloc; 0; n as usize + 1]?;
     next[0] = children.first[0];
     let mut k = 1;
     while k <= n as usize {
         let v = order[k] as usize;
-        let after = or_else(children.sibling[v], behind[pred[v] as usize]);
-        behind[v] = after;
-        next[v] = or_else(children.first[v], after);
+        let follows = or_else(children.sibling[v], after[pred[v] as usize]);
+        after[v] = follows;
+        next[v] = or_else(children.first[v], follows);
         k += 1;
     }
     Ok(next)
 }
 
-// The next vertex behind each in the preorder from the root with children by number, and 0 behind the last.
-pub(crate) fn string(
+// The next vertex after each in the preorder from the root with children by number, and 0 after the last.
+pub(crate) fn next_in_preorder(
     alloc: Global,
     n: u32,
     pred: &[u32],

@@ -6,7 +6,7 @@ use Rattle.nf_view.specs.Sizes.{AreSummed}
 use Rattle.nf_view.proofs.Adding.{added, both_fit}
 use Rattle.nf_view.proofs.Siblings.{pred_within}
 use Rattle.nf_view.proofs.Totals.{none_summed, sizes_of_summed}
-use Rattle.nf_view.proofs.finish.weigh.Goals as goal
+use Rattle.nf_view.proofs.subtrees.subtree_sizes.Goals as goal
 
 pub loop-k-init : goal.loop-k-init
 loop-k-init c =

@@ -1,6 +1,6 @@
 use Rattle.std.proofs.Common.{◌≡◌, ◌≤◌, suc, length, slice_index}
 use Rattle.nf_view.specs.Sizes.{AreSummed}
-use Rattle.nf_view.proofs.finish.weigh.Given as goal
+use Rattle.nf_view.proofs.subtrees.subtree_sizes.Given as goal
 
 abbrev pub invariant-loop-k : goal.invariant-loop-k
 invariant-loop-k l = record {

@@ -1,6 +1,6 @@
 use Rattle.std.proofs.Common.{◌≤◌, slice_index}
 use Rattle.nf_view.specs.Order.{HasChildren}
-use Rattle.nf_view.proofs.finish.link_children.Given as goal
+use Rattle.nf_view.proofs.subtrees.link_children.Given as goal
 
 abbrev pub invariant-loop-w : goal.invariant-loop-w
 invariant-loop-w l = record {
