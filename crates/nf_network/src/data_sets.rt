@@ -14,7 +14,8 @@ ghost use Rattle.nf_network.specs.Rows.{arc_rows, node_rows};
 ghost use Rattle.nf_network.specs.Whole.{IsWhole, rows_fault};
 
 use crate::node_data::take_node_row;
-use crate::options::{defaults_of, give_options};
+use crate::numbers::defaults_of;
+use crate::options::give_options;
 use crate::pass::{Arcs, read_arcs};
 use crate::rows::Defaults;
 use nf_cells::Names;

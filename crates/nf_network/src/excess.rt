@@ -1,13 +1,28 @@
 //! What the nodes have too much or too little, and which nodes have excess arcs.
 ghost use Rattle.std.specs.Prelude.{◌≡◌, ◌≤◌, ◌+◌, ◌*◌, ◌^◌, ℕ, length, take, unsigned_abs};
 ghost use Rattle.std.specs.List.{list_any};
+ghost use Rattle.std.specs.Str.{bytes_eq};
 ghost use Rattle.nf_network.specs.Balanced.{IsWithin, with_value};
 ghost use Rattle.nf_network.specs.Excess.{balance_of, gets, has_excess, is_met, is_open_demand, is_open_supply, sends, thousandths_of};
-ghost use Rattle.nf_network.specs.Faults.{most_nodes};
+ghost use Rattle.nf_network.specs.Faults.{excess, most_nodes};
 ghost use Rattle.nf_network.specs.Given.{IsEven};
 
 use crate::nodes::Nodes;
 use nf_cells::Supply;
+
+/// The name of the node that takes and gives what is too much or too little.
+pub fn excess_name() -> &'static [u8]
+    ensures { result.now ≡ excess }
+{
+    b"_EXCESS_"
+}
+
+/// Whether a name is `_EXCESS_`, which the data must not use.
+pub fn is_excess(name: &[u8]) -> bool
+    ensures { result ≡ bytes_eq name.now excess }
+{
+    name == excess_name()
+}
 
 /// The total of the nodes' values in thousandths, whether a supply or a demand is open, and whether THRUNET is given.
 #[derive(Clone, Copy, Debug)]

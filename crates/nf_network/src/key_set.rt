@@ -11,9 +11,15 @@ use std::marker::Model;
 type ArcKey = (usize, usize, Name);
 
 /// Arcs in the order in which they were added.
-#[derive(Drop)]
 pub(crate) struct KeySet {
     set: IndexSet<ArcKey>,
+}
+
+// A function of its own, so that the proofs of callers do not go through its parts.
+impl Drop for KeySet {
+    fn drop(self) {
+        let KeySet { set: _ } = self;
+    }
 }
 
 impl Model for KeySet {

@@ -11,7 +11,7 @@ ghost use Rattle.nf_network.specs.Making.{AreSound, name_at};
 ghost use Rattle.nf_network.specs.Network.{cells_at, excess_names, excess_value, if_excess, labels_of, node_texts, supdem_text};
 ghost use Rattle.nf_frac.specs.Texts.{frac_text};
 
-use crate::excess::Balance;
+use crate::excess::{Balance, excess_name};
 use crate::nodes::Nodes;
 use crate::pass::{Arcs, name_of_arc};
 use nf_cells::Supply;
@@ -103,7 +103,7 @@ fn label_excess(labels: &mut Labels, nodes: &Nodes, balance: Balance) -> Result<
         return Ok(());
     }
     let value = Frac::from_thousandths(-balance.total);
-    labels.push_node(b"_EXCESS_", value.text().bytes())
+    labels.push_node(excess_name(), value.text().bytes())
 }
 
 // Adds the excess arcs, by node number.
@@ -120,8 +120,8 @@ fn label_excess_arcs(
 {
     for i in 0..nodes.len() {
         let (name, value) = (nodes.name_of(i), nodes.value(i));
-        label_excess_arc(alloc, labels, balance.sends(value), name, b"_EXCESS_")?;
-        label_excess_arc(alloc, labels, balance.gets(value), b"_EXCESS_", name)?;
+        label_excess_arc(alloc, labels, balance.sends(value), name, excess_name())?;
+        label_excess_arc(alloc, labels, balance.gets(value), excess_name(), name)?;
     }
     Ok(())
 }

@@ -10,6 +10,7 @@ mod labelling;
 mod network_data;
 mod node_data;
 mod nodes;
+mod numbers;
 mod options;
 mod pass;
 mod problem;
@@ -17,4 +18,7 @@ mod repeats;
 mod row_cells;
 mod rows;
 
+pub use excess::{excess_name, is_excess};
 pub use network_data::network;
+pub use numbers::{amount_value, defaults_of, in_sense, upper_of};
+pub use rows::Defaults;

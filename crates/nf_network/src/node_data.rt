@@ -9,6 +9,7 @@ ghost use Rattle.nf_network.specs.Given.{IsEven, IsNamed};
 ghost use Rattle.nf_network.specs.NodePass.{IsTaken, name_faults_now, row_faults_now};
 ghost use Rattle.nf_network.specs.Rows.{node_row};
 
+use crate::excess::is_excess;
 use crate::nodes::{Nodes, no_memory};
 use crate::row_cells::read_node_row;
 use nf_cells::{Cell, Names};
@@ -58,7 +59,7 @@ fn name_row(nodes: &mut Nodes, seen: &mut Names, cell: Cell<&[u8]>) -> Result<us
             kind: DataKind::BadName,
         });
     };
-    if name == b"_EXCESS_".as_slice() {
+    if is_excess(name) {
         return Err(CellFault {
             role: Role::Node,
             kind: DataKind::ReservedName,

@@ -8,6 +8,7 @@ ghost use Rattle.nf_network.specs.Faults.{node_faults, gift_faults, is_other};
 ghost use Rattle.nf_network.specs.Nodes.{NodeList, with_node, given_at};
 ghost use Rattle.nf_network.specs.Given.{IsEven, IsNamed, IsGiven};
 
+use crate::excess::is_excess;
 use nf_cells::{Cell, Names, Supply};
 use nf_program::Role;
 use nf_roles::{CellFault, DataKind};
@@ -17,10 +18,16 @@ use std::marker::Model;
 const MOST_NODES: usize = 20_000;
 
 /// The nodes, numbered in the order in which they were first seen, each with what it was given.
-#[derive(Drop)]
 pub struct Nodes {
     names: Names,
     given: Vec<Option<Supply>>,
+}
+
+// A function of its own, so that the proofs of callers do not go through its parts.
+impl Drop for Nodes {
+    fn drop(self) {
+        let Nodes { names: _, given: _ } = self;
+    }
 }
 
 impl Model for Nodes {
@@ -122,7 +129,7 @@ impl Nodes {
                 kind: DataKind::BadName,
             });
         };
-        if name == b"_EXCESS_".as_slice() {
+        if is_excess(name) {
             return Err(CellFault {
                 role,
                 kind: DataKind::ReservedName,

@@ -3,42 +3,16 @@ ghost use Rattle.std.specs.Prelude.{◌≡◌, ◌⊎◌, None, Some, IfSome, Ma
 ghost use Rattle.nf_frac.specs.Amounts.{IsAmount};
 ghost use Rattle.nf_roles.specs.Faults.{out_of_memory};
 ghost use Rattle.nf_network.specs.Given.{IsEven};
-ghost use Rattle.nf_network.specs.Network.{bound_or_infinite, defaults_of};
 ghost use Rattle.nf_network.specs.NodeData.{negated};
 ghost use Rattle.nf_network.specs.OptionPass.{option_fault_now, option_given, options_fault_now, options_given};
 
 use crate::nodes::Nodes;
-use crate::rows::Defaults;
-use nf_cells::{Bound, Cell, Supply};
+use nf_cells::{Cell, Supply};
 use nf_frac::Amount;
 use nf_io::Text;
-use nf_program::{Bound as OptionBound, Name, ProcOptions, Role, SetName};
+use nf_program::{Name, ProcOptions, Role, SetName};
 use nf_roles::{DataFault, DataKind};
 use std::alloc::Global;
-
-/// What an arc has where its row does not say it.
-pub(crate) fn defaults_of(options: &ProcOptions) -> Defaults
-    ensures { result ≡ defaults_of options.now }
-{
-    let zero = Amount { thousandths: 0 };
-    Defaults {
-        cost: options.defcost.unwrap_or(zero),
-        lower: options.defminflow.unwrap_or(zero),
-        upper: bound_or_infinite(options.defcapacity),
-    }
-}
-
-fn bound_or_infinite(bound: Option<OptionBound>) -> Bound
-    ensures { result ≡ bound_or_infinite bound }
-{
-    let Some(bound) = bound else {
-        return Bound::Infinite;
-    };
-    match bound {
-        OptionBound::Finite(amount) => Bound::Finite(amount),
-        OptionBound::Infinite => Bound::Infinite,
-    }
-}
 
 /// Gives SUPPLY= to SOURCE= and DEMAND= to SINK=.
 pub(crate) fn give_options(

@@ -1,6 +1,5 @@
 //! Makes the problem of nodes and arcs.
 ghost use Rattle.std.specs.Prelude.{true, ◌≡◌, ◌≤◌, ◌<◌, ◌∷◌, ◌++◌, [], Some, IfOk, OnOk, if◌then◌else◌, length, get_or};
-ghost use Rattle.nf_frac.specs.Amounts.{amount_value};
 ghost use Rattle.nf_model.specs.Program.{IsAtMost};
 ghost use Rattle.nf_prob.specs.Building.{empty_program, new_column};
 ghost use Rattle.nf_network.specs.Excess.{balance_of, for_each, has_excess, joined_below};
@@ -8,15 +7,16 @@ ghost use Rattle.nf_network.specs.Faults.{most_arcs, most_nodes};
 ghost use Rattle.nf_network.specs.Balanced.{IsWithin};
 ghost use Rattle.nf_network.specs.Given.{IsEven};
 ghost use Rattle.nf_network.specs.Making.{AreSound, IsOfArcs, column_at, nodes_program, with_arcs, with_excess};
-ghost use Rattle.nf_network.specs.Network.{excess_column, excess_columns, excess_columns_at, in_sense, program_of, upper_of};
+ghost use Rattle.nf_network.specs.Network.{excess_column, excess_columns, excess_columns_at, program_of};
 ghost use Rattle.nf_network.specs.Excess.{thousandths_of};
 ghost use Rattle.nf_num.specs.Rational.{frac};
 
 use crate::excess::{Balance, thousandths};
 use crate::nodes::Nodes;
+use crate::numbers::{amount_value, in_sense, upper_of};
 use crate::pass::Arcs;
-use nf_cells::{Bound, Supply};
-use nf_frac::{Amount, Frac};
+use nf_cells::Supply;
+use nf_frac::Frac;
 use nf_prob::ProblemBuilder;
 use nf_program::ProcOptions;
 use std::alloc::{AllocError, Global};
@@ -166,32 +166,4 @@ fn add_arc(
 {
     builder.add_column(tail as u32 + 1, head as u32 + 1, cost, Some(lower), upper)?;
     Ok(())
-}
-
-// A cost of the program in the minimised problem.
-fn in_sense(maximize: bool, cost: Amount) -> Frac
-    ensures { result ≡ in_sense maximize cost }
-{
-    if maximize {
-        amount_value(cost).neg()
-    } else {
-        amount_value(cost)
-    }
-}
-
-// The number that an amount is.
-fn amount_value(amount: Amount) -> Frac
-    ensures { result ≡ amount_value amount }
-{
-    Frac::from_thousandths(i128::from(amount.thousandths))
-}
-
-// The upper bound that a bound is.
-fn upper_of(bound: Bound) -> Option<Frac>
-    ensures { result ≡ upper_of bound }
-{
-    match bound {
-        Bound::Finite(amount) => Some(amount_value(amount)),
-        Bound::Infinite => None,
-    }
 }

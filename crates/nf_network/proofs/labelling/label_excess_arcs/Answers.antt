@@ -28,7 +28,7 @@ label_excess_arc-requires-in-loop-i c =
     (get_or c.args.nodes.now.names k [] ++ 95 ∷ excess) (excess ++ 95 ∷ get_or c.args.nodes.now.names k [])) in
     let size = ap (λ l. length l.columns) inv.2 ∙ length-append c.args.labels.now.columns (joined_below c.loop-i.i (excess_names_at c.args.balance c.args.nodes.now.names c.args.nodes.now.given)) in
     let one = one-short c.sends.result (c.name_of-name.result.now ++ 95 ∷ excess) in
-    let next = ap (λ l. length l.columns) c.in_ok-label_excess_arc.ensures ∙ length-append c.loop-i.labels.columns _ in
+    let next = ap (λ l. length l.columns) (rw c.excess_name.ensures at c.in_ok-label_excess_arc.ensures) ∙ length-append c.loop-i.labels.columns _ in
     omega (arith, short, size, one, next, inv.0, inv.1, c.requires.few, c.requires.room)
 
 pub loop-i-preserved : goal.loop-i-preserved
@@ -36,6 +36,6 @@ loop-i-preserved c =
     let inv = c.loop-i.invariant in (
       inv.0,
       omega (arith, c.loop-i-test.true),
-      columns-more c.args.labels.now c.loop-i.labels _ _ (excess_names_at c.args.balance c.args.nodes.now.names c.args.nodes.now.given) c.loop-i.i _ _ inv.2 c.in_ok-label_excess_arc.ensures c.in_ok-label_excess_arc-2.ensures
+      columns-more c.args.labels.now c.loop-i.labels _ _ (excess_names_at c.args.balance c.args.nodes.now.names c.args.nodes.now.given) c.loop-i.i _ _ inv.2 (rw c.excess_name.ensures at c.in_ok-label_excess_arc.ensures) (rw c.excess_name-in-loop-i.ensures at c.in_ok-label_excess_arc-2.ensures)
           (names-at c.args.balance c.args.nodes.now.names c.args.nodes.now.given c.loop-i.i _ _ _ _ c.name_of-name.ensures c.value-value.ensures c.sends.ensures c.gets.ensures),
     )
