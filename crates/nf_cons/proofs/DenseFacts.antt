@@ -13,7 +13,7 @@ use Rattle.nf_roles.specs.Roles.{RoleColumns}
 use Rattle.nf_network.specs.Excess.{joined_below}
 use Rattle.nf_network.specs.Faults.{is_bad}
 use Rattle.nf_network.proofs.Lists.{joined-more, joined-none, joined-ones}
-use Rattle.nf_cons.specs.declared.places.Place.TheVariants.{OfRole, Column}
+use Rattle.nf_cons.specs.declared.places.DataColumn.TheVariants.{OfRole, Column}
 use Rattle.nf_cons.specs.declared.places.PlacedFault.{PlacedFault}
 use Rattle.nf_cons.specs.declared.row_type.RowType.{RowType}
 use Rattle.nf_cons.specs.declared.value.Value.{Value}

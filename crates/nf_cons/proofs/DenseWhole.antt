@@ -6,7 +6,7 @@ use Rattle.nf_program.specs.declared.program.ProcOptions.{ProcOptions}
 use Rattle.nf_roles.specs.Roles.{RoleColumns}
 use Rattle.nf_network.proofs.PassFacts.{map-length}
 use Rattle.nf_cons.specs.declared.taken.SideRow.{SideRow}
-use Rattle.nf_cons.specs.Bounds.{defaults_of, first_bound_fault}
+use Rattle.nf_cons.specs.Bounds.{nonarc_defaults, first_bound_fault}
 use Rattle.nf_cons.specs.Dense.{dense_row, first_header_fault, first_row_fault, givens, mentions, names, sides}
 use Rattle.nf_cons.specs.Due.{bounds_fault, dense_constraints, dense_fault, dense_of}
 use Rattle.nf_cons.specs.Making.{AreConstraints, AreReady}
@@ -47,7 +47,7 @@ module _ (o : ProcOptions) (arcs : List Name) (roles : RoleColumns) (table : Gri
 
   pub whole : (v : VariableList) (ns : List Name) (ss : List SideRow) (ls : TermLists) → v ≡ h → ns ≡ names (dense_of o arcs roles table) (length (dense_of o arcs roles table).rows)
       → ss ≡ sides (dense_of o arcs roles table) (length (dense_of o arcs roles table).rows) → ls ≡ lists_of (givens (dense_of o arcs roles table) (length (dense_of o arcs roles table).rows))
-      → first_bound_fault v.arcs.count (defaults_of o) v.homes ls ≡ None
+      → first_bound_fault v.arcs.count (nonarc_defaults o) v.homes ls ≡ None
       → (dense_fault o arcs roles table ≡ None) × AreConstraints arcs (dense_constraints o arcs roles table) v ns ss ls
   whole v ns ss ls ev en es el bounds =
       let last : bounds_fault o arcs (mentions roles table.header) (lists_of (givens (dense_of o arcs roles table) (length (dense_of o arcs roles table).rows))) ≡ None =

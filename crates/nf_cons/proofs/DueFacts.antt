@@ -14,7 +14,7 @@ use Rattle.nf_network.specs.Network.{Network}
 use Rattle.nf_network.proofs.PassFacts.{map-length}
 use Rattle.nf_cons.specs.declared.places.RowFault.{RowFault}
 use Rattle.nf_cons.specs.declared.taken.SideRow.{SideRow}
-use Rattle.nf_cons.specs.Bounds.{bound_fault_at, defaults_of}
+use Rattle.nf_cons.specs.Bounds.{bound_fault_at, nonarc_defaults}
 use Rattle.nf_cons.specs.Constrained.{column_with, constrained_labels, constrained_program, nonarc_column_at, side_name, side_row, with_columns, with_rows}
 use Rattle.nf_cons.specs.Dense.{first_header_fault, first_row_fault, mentions}
 use Rattle.nf_cons.specs.Due.{bounds_fault, dense_constraints, dense_due, dense_fault, dense_of}
@@ -42,14 +42,14 @@ dense-told o n roles table f e (inr q) (inr t) memory = inr (rw (q, t) refl)
 
 -- ---- bounds
 -- Without a fault of bounds, no bounds cross.
-pub ordered-of : (o : ProcOptions) (arcs : List Name) (ms : List Mention) (ls : TermLists) → bounds_fault o arcs ms ls ≡ None → AreInOrder (defaults_of o) (length arcs) ls (length (nonarcs arcs ms))
+pub ordered-of : (o : ProcOptions) (arcs : List Name) (ms : List Mention) (ls : TermLists) → bounds_fault o arcs ms ls ≡ None → AreInOrder (nonarc_defaults o) (length arcs) ls (length (nonarcs arcs ms))
 ordered-of o arcs ms ls h = λ k below.
     let size : length (homes arcs ms) ≡ length (nonarcs arcs ms) = map-length (home_in ms) (nonarcs arcs ms) in
-    not-crossed (length arcs) (defaults_of o) (homes arcs ms) ls k (none-at (length (homes arcs ms)) k (bound_fault_at (length arcs) (defaults_of o) (homes arcs ms) ls) h (omega (arith, size, below)))
+    not-crossed (length arcs) (nonarc_defaults o) (homes arcs ms) ls k (none-at (length (homes arcs ms)) k (bound_fault_at (length arcs) (nonarc_defaults o) (homes arcs ms) ls) h (omega (arith, size, below)))
 
 pub dense-ordered : (o : ProcOptions) (arcs : List Name) (roles : RoleColumns) (table : Grid) → dense_fault o arcs roles table ≡ None
     → (v : VariableList) (ns : List Name) (ss : List SideRow) (ls : TermLists) → AreConstraints arcs (dense_constraints o arcs roles table) v ns ss ls
-    → AreInOrder (defaults_of o) v.arcs.count ls (length v.nonarcs)
+    → AreInOrder (nonarc_defaults o) v.arcs.count ls (length v.nonarcs)
 dense-ordered o arcs roles table clear v ns ss ls e =
     rw (e.arcs_are, e.lists_are, e.nonarcs_are)
     (ordered-of o arcs (mentions roles table.header) (dense_constraints o arcs roles table).lists

@@ -4,7 +4,7 @@ use Rattle.std.proofs.lemmas.Bool.{cases_lt}
 use Rattle.nf_roles.specs.First.{first_below, or_else}
 use Rattle.nf_roles.specs.declared.fault.DataKind.{DataKind}
 use Rattle.nf_roles.proofs.Lists.{found, none-more}
-use Rattle.nf_cons.specs.declared.places.Place.{Place}
+use Rattle.nf_cons.specs.declared.places.DataColumn.{DataColumn}
 use Rattle.nf_cons.specs.declared.places.PlacedFault.{PlacedFault}
 use Rattle.nf_cons.specs.declared.places.RowFault.{RowFault}
 use Rattle.nf_cons.specs.Places.{IsFaultOf, IsRowFaultOf, fault_if, first_of, in_row}
@@ -43,7 +43,7 @@ pub right-row : (a b : Option RowFault) (f : RowFault) → a ≡ None → IsRowF
 right-row a b f n h = rw n h
 
 -- A check that finds nothing did not fail.
-pub passed : (b : Bool) (p : Place) (k : DataKind) → fault_if b p k ≡ None → b ≡ false
+pub passed : (b : Bool) (p : DataColumn) (k : DataKind) → fault_if b p k ≡ None → b ≡ false
 passed false p k h = refl
 passed true p k h = absurd (cc)
 

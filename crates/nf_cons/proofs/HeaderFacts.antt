@@ -11,7 +11,7 @@ use Rattle.nf_cells.specs.Names.{Name, first_seen, has_name}
 use Rattle.nf_roles.specs.declared.fault.DataKind.TheVariants as kind
 use Rattle.nf_roles.specs.Roles.{RoleColumns}
 use Rattle.nf_network.proofs.PassFacts.{map-length}
-use Rattle.nf_cons.specs.declared.places.Place.TheVariants.{Column}
+use Rattle.nf_cons.specs.declared.places.DataColumn.TheVariants.{Column}
 use Rattle.nf_cons.specs.ArcList.{ArcList, AreArcs, arc_in}
 use Rattle.nf_cons.specs.Dense.{column_fault_at, first_header_fault, mention_at, mentions, no_mention}
 use Rattle.nf_cons.specs.Naming.{VariableList, faults_now, number_now, with_mention}

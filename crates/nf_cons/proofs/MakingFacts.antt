@@ -13,7 +13,7 @@ use Rattle.nf_program.specs.declared.program.ProcOptions.{ProcOptions}
 use Rattle.nf_network.specs.Excess.{joined_below}
 use Rattle.nf_network.proofs.Lists.{joined-ones}
 use Rattle.nf_cons.specs.declared.taken.Coefficient.{Coefficient}
-use Rattle.nf_cons.specs.Bounds.{defaults_of, figures_of}
+use Rattle.nf_cons.specs.Bounds.{nonarc_defaults, figures_of}
 use Rattle.nf_cons.specs.Constrained.{column_of, nonarc_column, nonarc_column_at, with_columns, with_rows}
 use Rattle.nf_cons.specs.Making.{HasEntriesBelow, IsPlaced, before, with_entries_of, with_entry_of}
 use Rattle.nf_cons.specs.Terms.{TermLists}
@@ -95,7 +95,7 @@ unfolding joined_below
 nonarcs-empty o arcs ls n zero = All-nil (HasEntriesBelow n)
 nonarcs-empty o arcs ls n (suc k) =
     All-append (HasEntriesBelow n) (joined_below k (nonarc_column_at o arcs ls)) (nonarc_column_at o arcs ls k) (nonarcs-empty o arcs ls n k)
-    (All-cons (HasEntriesBelow n) (nonarc_column o (figures_of (defaults_of o) ls (arcs + k))) [] (All-nil (λ e. e.row < n)) (All-nil (HasEntriesBelow n)))
+    (All-cons (HasEntriesBelow n) (nonarc_column o (figures_of (nonarc_defaults o) ls (arcs + k))) [] (All-nil (λ e. e.row < n)) (All-nil (HasEntriesBelow n)))
 
 pub nonarcs-length : (o : ProcOptions) (arcs : ℕ) (ls : TermLists) (k : ℕ) → length (joined_below k (nonarc_column_at o arcs ls)) ≡ k
-nonarcs-length o arcs ls k = joined-ones k (λ i. nonarc_column o (figures_of (defaults_of o) ls (arcs + i)))
+nonarcs-length o arcs ls k = joined-ones k (λ i. nonarc_column o (figures_of (nonarc_defaults o) ls (arcs + i)))

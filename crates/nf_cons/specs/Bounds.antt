@@ -1,6 +1,6 @@
 -- The cost and bounds of nonarc variables, and where bounds that cross are reported.
 -- The columns of nonarc variables and the fault CrossedBounds of CONDATA rest on these words.
-use Rattle.std.specs.Prelude.{◌+◌, ℕ, pos, Bool, false, Option, Some, None, List, length, get_or, if◌then◌else◌, unwrap_or}
+use Rattle.std.specs.Prelude.{◌+◌, ℕ, Bool, false, Option, Some, None, List, length, get_or, if◌then◌else◌, unwrap_or}
 use Rattle.std.specs.Bool.{nat_lt}
 use Rattle.nf_frac.specs.declared.amount.Amount.{Amount}
 use Rattle.nf_cells.specs.declared.values.Bound.{Bound}
@@ -9,22 +9,18 @@ use Rattle.nf_program.specs.declared.program.ProcOptions.{ProcOptions}
 use Rattle.nf_roles.specs.declared.fault.DataKind.TheVariants as kind
 use Rattle.nf_roles.specs.First.{first_below}
 use Rattle.nf_network.specs.Faults.{are_crossed}
-use Rattle.nf_network.specs.Network.{bound_or_infinite}
+use Rattle.nf_network.specs.Network.{defaults_of}
 use Rattle.nf_cons.specs.declared.places.Home.{Home}
-use Rattle.nf_cons.specs.declared.places.Place.TheVariants.{Column}
+use Rattle.nf_cons.specs.declared.places.DataColumn.TheVariants.{Column}
 use Rattle.nf_cons.specs.declared.places.RowFault.{RowFault}
 use Rattle.nf_cons.specs.declared.taken.Figures.{Figures}
 use Rattle.nf_cons.specs.declared.value.Value.{Value}
 use Rattle.nf_cons.specs.declared.value.Value.TheVariants.{Finite, NoUpper, NoLower}
 use Rattle.nf_cons.specs.Terms.{TermLists, gift_to}
 
--- What a nonarc variable has where no row gives it: DEFCOST or 0, DEFMINFLOW or 0, DEFCAPACITY or no bound.
-abbrev pub defaults_of : ProcOptions → Figures
-defaults_of o = record {
-  cost = unwrap_or o.defcost (record { thousandths = pos 0 });
-  lower = Some (unwrap_or o.defminflow (record { thousandths = pos 0 }));
-  upper = bound_or_infinite o.defcapacity;
-}
+-- What a nonarc variable has if no row gives it: the same as an arc.
+abbrev pub nonarc_defaults : ProcOptions → Figures
+nonarc_defaults o = record { cost = (defaults_of o).cost; lower = Some (defaults_of o).lower; upper = (defaults_of o).upper }
 
 -- The cost that a row gives, or else a default.
 abbrev pub cost_or : Amount → Option (Value × ℕ) → Amount

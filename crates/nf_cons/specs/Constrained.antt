@@ -14,7 +14,7 @@ use Rattle.nf_network.specs.Network.{Network, in_sense, upper_of}
 use Rattle.nf_cons.specs.declared.taken.Coefficient.{Coefficient}
 use Rattle.nf_cons.specs.declared.taken.Figures.{Figures}
 use Rattle.nf_cons.specs.declared.taken.SideRow.{SideRow}
-use Rattle.nf_cons.specs.Bounds.{defaults_of, figures_of}
+use Rattle.nf_cons.specs.Bounds.{nonarc_defaults, figures_of}
 use Rattle.nf_cons.specs.Terms.{TermLists}
 
 -- The column of a nonarc variable stands in no node row.
@@ -23,7 +23,7 @@ nonarc_column o f = new_column None (in_sense o.maximize f.cost) (option_map amo
 
 -- The column of nonarc variable k, alone in a list, where so many arcs come before.
 abbrev pub nonarc_column_at : ProcOptions → ℕ → TermLists → ℕ → List Column
-nonarc_column_at o arcs ls k = nonarc_column o (figures_of (defaults_of o) ls (arcs + k)) ∷ []
+nonarc_column_at o arcs ls k = nonarc_column o (figures_of (nonarc_defaults o) ls (arcs + k)) ∷ []
 
 -- The row of a constraint.
 abbrev pub side_row : SideRow → Row

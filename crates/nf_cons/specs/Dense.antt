@@ -17,7 +17,7 @@ use Rattle.nf_roles.specs.Roles.{RoleColumns, cell_for}
 use Rattle.nf_network.specs.Arcs.{said}
 use Rattle.nf_network.specs.Excess.{joined_below}
 use Rattle.nf_network.specs.Faults.{is_bad}
-use Rattle.nf_cons.specs.declared.places.Place.TheVariants.{OfRole, Column}
+use Rattle.nf_cons.specs.declared.places.DataColumn.TheVariants.{OfRole, Column}
 use Rattle.nf_cons.specs.declared.places.PlacedFault.{PlacedFault}
 use Rattle.nf_cons.specs.declared.places.RowFault.{RowFault}
 use Rattle.nf_cons.specs.declared.taken.SideRow.{SideRow}

@@ -13,13 +13,13 @@ use Rattle.nf_cons.specs.Types.{default_type}
 use Rattle.nf_cons.specs.Places.{told}
 use Rattle.nf_cons.specs.Variables.{Mention, arcs_of, homes, nonarcs, number_in}
 use Rattle.nf_cons.specs.Terms.{TermLists, lists_of}
-use Rattle.nf_cons.specs.Bounds.{defaults_of, first_bound_fault}
+use Rattle.nf_cons.specs.Bounds.{nonarc_defaults, first_bound_fault}
 use Rattle.nf_cons.specs.Constrained.{Constraints, constrained}
 use Rattle.nf_cons.specs.Dense.{Dense, dense_row, first_header_fault, first_row_fault, givens, mentions, names, sides}
 
 -- The fault of the bounds of nonarc variables, which stand first at these places.
 abbrev pub bounds_fault : ProcOptions → List Name → List Mention → TermLists → Option RowFault
-bounds_fault o arcs ms ls = first_bound_fault (length arcs) (defaults_of o) (homes arcs ms) ls
+bounds_fault o arcs ms ls = first_bound_fault (length arcs) (nonarc_defaults o) (homes arcs ms) ls
 
 -- The network with constraints, unless there is a fault.
 abbrev pub unless_fault : RoleColumns → Cells → Option RowFault → Network → Result Network DataFault

@@ -9,13 +9,13 @@ use Rattle.nf_roles.specs.declared.fault.DataKind.{DataKind}
 use Rattle.nf_roles.specs.declared.fault.DataKind.TheVariants as kind
 use Rattle.nf_roles.specs.First.{or_else}
 use Rattle.nf_roles.specs.Roles.{RoleColumns, column_text}
-use Rattle.nf_cons.specs.declared.places.Place.{Place}
-use Rattle.nf_cons.specs.declared.places.Place.TheVariants.{OfRole, Column}
+use Rattle.nf_cons.specs.declared.places.DataColumn.{DataColumn}
+use Rattle.nf_cons.specs.declared.places.DataColumn.TheVariants.{OfRole, Column}
 use Rattle.nf_cons.specs.declared.places.PlacedFault.{PlacedFault}
 use Rattle.nf_cons.specs.declared.places.RowFault.{RowFault}
 
 -- A fault of a cell where a check fails.
-abbrev pub fault_if : Bool → Place → DataKind → Option PlacedFault
+abbrev pub fault_if : Bool → DataColumn → DataKind → Option PlacedFault
 fault_if fails place k = if fails then Some (record { place = place; kind = k }) else None
 
 -- The first fault that is there.
@@ -36,10 +36,10 @@ abbrev pub IsRowFaultOf : Option RowFault → RowFault → Type 0
 IsRowFaultOf due f = (f.fault.kind ≡ kind.NoMemory) ⊎ (due ≡ Some f)
 
 -- How a column is reported: by its cell in the header as it stands, or else by the role's first reserved name.
-abbrev pub place_text : RoleColumns → Cells → Place → Name
-place_text roles header (OfRole r) = column_text roles header r
-place_text roles header (Column c) = get_or header c []
+abbrev pub text_of_column : RoleColumns → Cells → DataColumn → Name
+text_of_column roles header (OfRole r) = column_text roles header r
+text_of_column roles header (Column c) = get_or header c []
 
 -- A fault by its data set, row, column and kind.
 abbrev pub told : RoleColumns → Cells → RowFault → DataFault
-told roles header f = record { set = set.Condata; row = f.row; column = place_text roles header f.fault.place; kind = f.fault.kind }
+told roles header f = record { set = set.Condata; row = f.row; column = text_of_column roles header f.fault.place; kind = f.fault.kind }

@@ -10,7 +10,7 @@ use Rattle.nf_labels.specs.Labels.{LabelList}
 use Rattle.nf_roles.specs.declared.fault.DataKind.TheVariants as kind
 use Rattle.nf_network.specs.Faults.{excess}
 use Rattle.nf_cons.specs.declared.places.Home.{Home}
-use Rattle.nf_cons.specs.declared.places.Place.TheVariants.{Column}
+use Rattle.nf_cons.specs.declared.places.DataColumn.TheVariants.{Column}
 use Rattle.nf_cons.specs.declared.places.PlacedFault.{PlacedFault}
 use Rattle.nf_cons.specs.Places.{fault_if}
 

@@ -1,7 +1,6 @@
 //! The bounds of nonarc variables.
 ghost use Rattle.std.specs.Prelude.{◌≡◌, None, Some, MatchResult};
-ghost use Rattle.nf_network.specs.Network.{bound_or_infinite};
-ghost use Rattle.nf_cons.specs.Bounds.{bounds_cross, crossed_at, defaults_of, first_bound_fault};
+ghost use Rattle.nf_cons.specs.Bounds.{bounds_cross, crossed_at, first_bound_fault, nonarc_defaults};
 ghost use Rattle.nf_cons.specs.Naming.{IsSound};
 
 use crate::constraints::Constraints;
@@ -9,28 +8,19 @@ use crate::fault::{at, in_row};
 use crate::places::{Home, RowFault};
 use crate::taken::Figures;
 use nf_cells::Bound;
-use nf_frac::Amount;
-use nf_program::{Bound as OptionBound, ProcOptions};
+use nf_network::defaults_of;
+use nf_program::ProcOptions;
 use nf_roles::DataKind;
 
-/// What a nonarc variable has where no row gives it: DEFCOST or 0, DEFMINFLOW or 0, DEFCAPACITY or no bound.
-pub fn defaults_of(options: &ProcOptions) -> Figures
-    ensures { result ≡ defaults_of options.now }
+/// What a nonarc variable has if no row gives it: the same as an arc.
+pub fn nonarc_defaults(options: &ProcOptions) -> Figures
+    ensures { result ≡ nonarc_defaults options.now }
 {
-    let zero = Amount { thousandths: 0 };
+    let arcs = defaults_of(options);
     Figures {
-        cost: options.defcost.unwrap_or(zero),
-        lower: Some(options.defminflow.unwrap_or(zero)),
-        upper: bound_or_infinite(options.defcapacity),
-    }
-}
-
-fn bound_or_infinite(bound: Option<OptionBound>) -> Bound
-    ensures { result ≡ bound_or_infinite bound }
-{
-    match bound {
-        Some(OptionBound::Finite(amount)) => Bound::Finite(amount),
-        Some(OptionBound::Infinite) | None => Bound::Infinite,
+        cost: arcs.cost,
+        lower: Some(arcs.lower),
+        upper: arcs.upper,
     }
 }
 

@@ -11,7 +11,7 @@ ghost use Rattle.nf_cons.specs.Terms.{lists_of};
 ghost use Rattle.nf_cons.specs.Types.{default_type};
 ghost use Rattle.nf_cons.specs.Variables.{arcs_of};
 
-use crate::bounds::{check_bounds, defaults_of};
+use crate::bounds::{check_bounds, nonarc_defaults};
 use crate::constraints::Constraints;
 use crate::dense_rows::DenseRows;
 use crate::fault::{in_row, told};
@@ -91,7 +91,7 @@ fn read_dense(
         Ok(constraints) => constraints,
         Err(fault) => return Err(fault),
     };
-    match check_bounds(&constraints, defaults_of(options)) {
+    match check_bounds(&constraints, nonarc_defaults(options)) {
         Ok(()) => Ok(constraints),
         Err(fault) => Err(fault),
     }

@@ -13,7 +13,7 @@ ghost use Rattle.nf_cons.specs.Types.{side_kind};
 
 use crate::constraints::Constraints;
 use crate::fault::{at, at_role};
-use crate::places::{Place, PlacedFault};
+use crate::places::{DataColumn, PlacedFault};
 use crate::row_type::{RowType, side_kind, type_cell};
 use crate::taken::{MOST_COEFFICIENTS, MOST_CONSTRAINTS, SideRow, Term};
 use crate::value::{Value, value_cell};
@@ -55,7 +55,7 @@ impl Model for DenseRows {
 fn read_name(alloc: Global, cell: Cell<&[u8]>, row: u32) -> Result<Vec<u8>, PlacedFault>
     ensures { MatchResult result
         (λ v. (is_bad (cell_now cell.entry) ≡ false) × (v.items ≡ row_name row (cell_now cell.entry)))
-        (IsFaultOf (fault_if (is_bad (cell_now cell.entry)) (Place.OfRole Role.Row) DataKind.BadName)) }
+        (IsFaultOf (fault_if (is_bad (cell_now cell.entry)) (DataColumn.OfRole Role.Row) DataKind.BadName)) }
 {
     let name = match cell {
         Cell::Bad => return Err(at_role(Role::Row, DataKind::BadName)),
@@ -239,7 +239,7 @@ impl DenseRows {
             × (self.new ≡ state_with self.old (given_by row_type self.old.variables.arcs.count column v (length self.old.sides) row cell)))
             (IsFaultOf (first_of (cell_faults row_type self.old.variables.arcs.count column v self.old.lists self.old.count cell))) }
     {
-        let place = Place::Column(column);
+        let place = DataColumn::Column(column);
         let value = match cell {
             Cell::Missing => return Ok(()),
             Cell::Bad => return Err(at(place, DataKind::Amount)),

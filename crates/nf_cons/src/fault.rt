@@ -2,9 +2,9 @@
 ghost use Rattle.std.specs.Prelude.{◌≡◌, ◌⊎◌, [], get_or, length};
 ghost use Rattle.nf_roles.specs.Faults.{out_of_memory};
 ghost use Rattle.nf_roles.specs.Roles.{HasColumnsBelow};
-ghost use Rattle.nf_cons.specs.Places.{place_text, told};
+ghost use Rattle.nf_cons.specs.Places.{text_of_column, told};
 
-use crate::places::{Place, PlacedFault, RowFault};
+use crate::places::{DataColumn, PlacedFault, RowFault};
 use nf_io::Text;
 use nf_program::{Role, SetName};
 use nf_roles::{DataFault, DataKind, Roles};
@@ -12,7 +12,7 @@ use nf_table::Table;
 use std::alloc::Global;
 
 /// A fault of a cell.
-pub fn at(place: Place, kind: DataKind) -> PlacedFault
+pub fn at(place: DataColumn, kind: DataKind) -> PlacedFault
     ensures { result ≡ record { place = place; kind = kind } }
 {
     PlacedFault { place, kind }
@@ -20,9 +20,9 @@ pub fn at(place: Place, kind: DataKind) -> PlacedFault
 
 /// A fault of a cell in the column of a role.
 pub fn at_role(role: Role, kind: DataKind) -> PlacedFault
-    ensures { result ≡ record { place = Place.OfRole role; kind = kind } }
+    ensures { result ≡ record { place = DataColumn.OfRole role; kind = kind } }
 {
-    at(Place::OfRole(role), kind)
+    at(DataColumn::OfRole(role), kind)
 }
 
 /// A fault of a row, which counts from 1; 0 is the header.
@@ -40,13 +40,13 @@ pub fn no_memory() -> RowFault
 }
 
 // How a column is reported: by its cell in the header, or else by the role's first reserved name.
-fn place_text<'a>(place: Place, roles: &Roles, table: &'a Table) -> &'a [u8]
+fn text_of_column<'a>(place: DataColumn, roles: &Roles, table: &'a Table) -> &'a [u8]
     requires { HasColumnsBelow roles.now (length table.now.header) }
-    ensures { result.now ≡ place_text roles.now table.now.header place }
+    ensures { result.now ≡ text_of_column roles.now table.now.header place }
 {
     match place {
-        Place::OfRole(role) => roles.column_text(table, role),
-        Place::Column(column) => header_cell(table, column),
+        DataColumn::OfRole(role) => roles.column_text(table, role),
+        DataColumn::Column(column) => header_cell(table, column),
     }
 }
 
@@ -70,7 +70,7 @@ pub fn told(alloc: Global, roles: &Roles, table: &Table, found: RowFault) -> Dat
     if found.fault.kind == DataKind::NoMemory {
         return DataFault::no_memory(alloc);
     }
-    match Text::from_slice(alloc, place_text(found.fault.place, roles, table)) {
+    match Text::from_slice(alloc, text_of_column(found.fault.place, roles, table)) {
         Ok(column) => DataFault {
             set: SetName::Condata,
             row: found.row,

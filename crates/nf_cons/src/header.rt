@@ -10,7 +10,7 @@ ghost use Rattle.nf_cons.specs.Variables.{Mention, arcs_of};
 
 use crate::arcs::arc_names;
 use crate::fault::{at, in_row, no_memory};
-use crate::places::{Home, Place, PlacedFault, RowFault};
+use crate::places::{DataColumn, Home, PlacedFault, RowFault};
 use crate::variables::Variables;
 use nf_cells::{Names, is_missing, trimmed};
 use nf_labels::Labels;
@@ -65,14 +65,14 @@ fn take_column(
     column: u32,
 ) -> Result<(), PlacedFault>
     requires sound { IsSound header.old.variables }
-    ensures { let m : Mention = record { variable = value_of cell.now; home = record { row = 0; place = Place.Column column } } in
+    ensures { let m : Mention = record { variable = value_of cell.now; home = record { row = 0; place = DataColumn.Column column } } in
         MatchResult result
         (λ _. (first_of (column_faults_now header.old.variables seen.old m) ≡ None)
         × (header.new.variables ≡ with_mention header.old.variables m) × (seen.new ≡ seen.old ++ m.variable ∷ [])
         × (header.new.numbers.items ≡ header.old.numbers.items ++ number_now header.old.variables m.variable ∷ []))
         (IsFaultOf (first_of (column_faults_now header.old.variables seen.old m))) }
 {
-    let place = Place::Column(column);
+    let place = DataColumn::Column(column);
     let name = trimmed(cell);
     if is_missing(name) {
         return Err(at(place, DataKind::BadName));

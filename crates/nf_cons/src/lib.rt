@@ -20,14 +20,14 @@ mod value;
 mod variables;
 
 pub use arcs::{ArcNames, arc_names};
-pub use bounds::{check_bounds, defaults_of};
+pub use bounds::{check_bounds, nonarc_defaults};
 pub use constraints::Constraints;
 pub use dense_data::dense;
 pub use fault::{at_role, in_row, no_memory, told};
 pub use found::NamedArc;
 pub use gifts::Gifts;
 pub use making::add_constraints;
-pub use places::{Home, Place, PlacedFault, RowFault};
+pub use places::{DataColumn, Home, PlacedFault, RowFault};
 pub use row_type::{RowType, default_type, is_same_type, side_kind, type_cell};
 pub use taken::{Coefficient, Figures, MOST_COEFFICIENTS, MOST_CONSTRAINTS, SideRow, Term};
 pub use terms::Terms;

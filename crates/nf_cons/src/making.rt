@@ -3,18 +3,17 @@ ghost use Rattle.std.specs.Prelude.{true, ◌≡◌, ◌≤◌, ◌<◌, ◌+◌
 ghost use Rattle.std.specs.List.{All};
 ghost use Rattle.nf_frac.specs.Amounts.{amount_value};
 ghost use Rattle.nf_network.specs.Excess.{joined_below};
-ghost use Rattle.nf_network.specs.Network.{in_sense, upper_of};
-ghost use Rattle.nf_cons.specs.Bounds.{defaults_of as defaults_due};
+ghost use Rattle.nf_cons.specs.Bounds.{nonarc_defaults};
 ghost use Rattle.nf_cons.specs.Constrained.{column_of, constrained_labels, constrained_program, nonarc_column_at, side_name, side_row, with_columns, with_rows};
 ghost use Rattle.nf_cons.specs.Dense.{most_constraints};
 ghost use Rattle.nf_cons.specs.Naming.{IsSound};
 ghost use Rattle.nf_cons.specs.Making.{AreInOrder, AreReady, HasEntriesBelow, IsPlaced, IsPlain, are_apart, before, with_entries_of};
 
-use crate::bounds::defaults_of;
+use crate::bounds::nonarc_defaults;
 use crate::constraints::Constraints;
-use nf_cells::Bound;
 use nf_frac::{Amount, Frac};
 use nf_labels::Labels;
+use nf_network::{amount_value, in_sense, upper_of};
 use nf_prob::ProblemBuilder;
 use nf_program::ProcOptions;
 use std::alloc::AllocError;
@@ -29,7 +28,7 @@ pub fn add_constraints(
     requires plain { IsPlain (record { program = builder.old; labels = labels.old }) }
     requires arcs { constraints.now.variables.arcs.count ≡ labels.old.own_arcs }
     requires ready { AreReady constraints.now.variables constraints.now.names constraints.now.sides.items constraints.now.terms }
-    requires in_order { AreInOrder (defaults_due options.now) constraints.now.variables.arcs.count constraints.now.terms (length constraints.now.variables.nonarcs) }
+    requires in_order { AreInOrder (nonarc_defaults options.now) constraints.now.variables.arcs.count constraints.now.terms (length constraints.now.variables.nonarcs) }
     ensures program { OnOk result (builder.new
         ≡ constrained_program options.now labels.old.own_arcs builder.old (length constraints.now.variables.nonarcs) constraints.now.sides.items constraints.now.terms) }
     ensures labels { OnOk result (labels.new ≡ constrained_labels labels.old (record {
@@ -54,14 +53,14 @@ fn add_nonarcs(
     options: &ProcOptions,
 ) -> Result<u32, AllocError>
     requires sound { IsSound constraints.now.variables }
-    requires in_order { AreInOrder (defaults_due options.now) constraints.now.variables.arcs.count constraints.now.terms (length constraints.now.variables.nonarcs) }
+    requires in_order { AreInOrder (nonarc_defaults options.now) constraints.now.variables.arcs.count constraints.now.terms (length constraints.now.variables.nonarcs) }
     requires few_rows { length builder.old.rows ≤ 2 ^ 20 }
     requires few_columns { length builder.old.columns ≤ 2 ^ 20 }
     ensures columns { OnOk result (builder.new ≡ with_columns builder.old
         (joined_below (length constraints.now.variables.nonarcs) (nonarc_column_at options.now constraints.now.variables.arcs.count constraints.now.terms))) }
     ensures before { IfOk result (λ n. n ≡ before (length constraints.now.variables.nonarcs) constraints.now.variables.arcs.count (length builder.old.columns)) }
 {
-    let defaults = defaults_of(options);
+    let defaults = nonarc_defaults(options);
     let mut before = constraints.variables.arcs() as u32;
     for k in 0..constraints.variables.nonarcs() {
         let variable = constraints.variables.arcs() + k;
@@ -158,24 +157,6 @@ fn label_sides(labels: &mut Labels, constraints: &Constraints) -> Result<(), All
     Ok(())
 }
 
-// A cost of the program in the minimised problem.
-fn in_sense(maximize: bool, cost: Amount) -> Frac
-    ensures { result ≡ in_sense maximize cost }
-{
-    if maximize {
-        amount_value(cost).neg()
-    } else {
-        amount_value(cost)
-    }
-}
-
-// The number that an amount is.
-fn amount_value(amount: Amount) -> Frac
-    ensures { result ≡ amount_value amount }
-{
-    Frac::from_thousandths(i128::from(amount.thousandths))
-}
-
 // The lower bound of a variable, if it has one.
 fn lower_of(lower: Option<Amount>) -> Option<Frac>
     ensures { result ≡ option_map amount_value lower }
@@ -183,15 +164,5 @@ fn lower_of(lower: Option<Amount>) -> Option<Frac>
     match lower {
         Some(amount) => Some(amount_value(amount)),
         None => None,
-    }
-}
-
-// The upper bound that a bound is.
-fn upper_of(bound: Bound) -> Option<Frac>
-    ensures { result ≡ upper_of bound }
-{
-    match bound {
-        Bound::Finite(amount) => Some(amount_value(amount)),
-        Bound::Infinite => None,
     }
 }

@@ -4,7 +4,7 @@ use nf_roles::DataKind;
 
 /// A column of CONDATA: that of a role, or that of a number from 0.
 #[derive(Clone, Copy, Debug)]
-pub enum Place {
+pub enum DataColumn {
     OfRole(Role),
     Column(u32),
 }
@@ -12,7 +12,7 @@ pub enum Place {
 /// What is wrong with a cell of a row.
 #[derive(Clone, Copy, Debug)]
 pub struct PlacedFault {
-    pub place: Place,
+    pub place: DataColumn,
     pub kind: DataKind,
 }
 
@@ -27,5 +27,5 @@ pub struct RowFault {
 #[derive(Clone, Copy, Debug)]
 pub struct Home {
     pub row: u32,
-    pub place: Place,
+    pub place: DataColumn,
 }

@@ -1,5 +1,5 @@
 //! What is read of CONDATA.
-use crate::places::Place;
+use crate::places::DataColumn;
 use crate::value::Value;
 use nf_cells::Bound;
 use nf_frac::Amount;
@@ -33,8 +33,8 @@ pub struct Term {
     pub variable: usize,
     pub is_arc: bool,
     pub value: Value,
-    pub named_at: Place,
-    pub given_at: Place,
+    pub named_at: DataColumn,
+    pub given_at: DataColumn,
 }
 
 /// The cost of a nonarc variable, and its bounds, where there are such.

@@ -17,12 +17,23 @@ use std::alloc::Global;
 use std::marker::Model;
 
 /// The coefficients of constraints so far, and the costs and bounds that rows of data give nonarc variables.
-#[derive(Drop)]
 pub struct Terms {
     coefficients: Vec<Coefficient>,
     costs: Gifts,
     lowers: Gifts,
     uppers: Gifts,
+}
+
+// A function of its own, so that the proofs of callers do not go through its parts.
+impl Drop for Terms {
+    fn drop(self) {
+        let Terms {
+            coefficients: _,
+            costs: _,
+            lowers: _,
+            uppers: _,
+        } = self;
+    }
 }
 
 // Gives a nonarc variable a cost or a bound.

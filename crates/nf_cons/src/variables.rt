@@ -11,6 +11,7 @@ use crate::arcs::ArcNames;
 use crate::fault::at;
 use crate::places::{Home, PlacedFault};
 use nf_cells::{Names, is_name};
+use nf_network::is_excess;
 use nf_roles::DataKind;
 use std::alloc::{AllocError, Global};
 use std::marker::Model;
@@ -19,11 +20,21 @@ const MOST_NONARCS: usize = 5_000;
 
 /// The variables: the arcs of ARCDATA, and after them the nonarc variables in the order in which they were first seen,
 /// each with its first place. They are numbered from 0.
-#[derive(Drop)]
 pub struct Variables {
     arcs: ArcNames,
     nonarcs: Names,
     homes: Vec<Home>,
+}
+
+// A function of its own, so that the proofs of callers do not go through its parts.
+impl Drop for Variables {
+    fn drop(self) {
+        let Variables {
+            arcs: _,
+            nonarcs: _,
+            homes: _,
+        } = self;
+    }
 }
 
 impl Model for Variables {
@@ -94,7 +105,7 @@ impl Variables {
         if found.is_none() && !is_name(name) {
             return Err(at(home.place, DataKind::BadName));
         }
-        if name == b"_EXCESS_".as_slice() {
+        if is_excess(name) {
             return Err(at(home.place, DataKind::ReservedName));
         }
         if is_taken {

@@ -9,4 +9,4 @@ returns-in-Ok-check_bounds c =
     let same = table-is c.args.options.now arcs c.args.roles.now c.args.table.now c.in-Ok.header.variables c.in-Ok.header.numbers.items header.1 in
     let rows = rw same at c.in-Ok-read_rows.ensures in
     whole c.args.options.now arcs c.args.roles.now c.args.table.now c.in-Ok.header.variables c.in-Ok.header.numbers.items header.1 header.0 rows.0 c.in-Ok-read_rows.constraints.variables _ _ _ rows.1 rows.2 rows.3 rows.4
-    (rw c.defaults_of.ensures at c.in-Ok-check_bounds.ensures)
+    (rw c.nonarc_defaults.ensures at c.in-Ok-check_bounds.ensures)

@@ -1,7 +1,7 @@
 use Rattle.std.proofs.Common.{◌≡◌, ◌∙◌, false, nat_lt, sym, ap}
 use Rattle.nf_cells.specs.Cells.{is_blank, value_of}
 use Rattle.nf_cells.specs.Names.{has_name, with_name}
-use Rattle.nf_cons.specs.declared.places.Place.TheVariants.{Column}
+use Rattle.nf_cons.specs.declared.places.DataColumn.TheVariants.{Column}
 use Rattle.nf_cons.specs.Variables.{Mention}
 use Rattle.nf_cons.proofs.NamingFacts.{column-clear, column-fault, not-taken, place-tells-there}
 use Rattle.nf_cons.proofs.header.take_column.Goals as goal
