@@ -1,11 +1,10 @@
 -- What a tree keeps: a state of stage one that is a basis, the basic columns in slots with their values, and their links.
 -- Its `HasNumbers` is `HoldsTree`.
-use Rattle.std.specs.Prelude.{◌≡◌, ℕ, ◌+◌, ◌*◌, ◌<◌, List, length}
+use Rattle.std.specs.Prelude.{◌≡◌, ℕ, ◌+◌, ◌*◌, ◌<◌, length}
 use Rattle.nf_model.specs.Program.{LinearProgram}
 use Rattle.nf_simplex.specs.Layout.{layout_of}
 use Rattle.nf_simplex.specs.StageOf.{StageNumber, StageOne, rows_in}
-use Rattle.nf_simplex.specs.Standing.{Standing, IsBasisOf}
-use Rattle.nf_basis.specs.declared.col.Col.{Col}
+use Rattle.nf_simplex.specs.Standing.{IsBasisOf}
 use Rattle.nf_basis.specs.Kept.{IsPresent, IsStateOf}
 use Rattle.nf_basis.specs.Numbers.{in_slot, ListBasics}
 use Rattle.nf_basis.specs.Dense.{HasBasics}
