@@ -16,6 +16,7 @@ pub mod Start
 pub mod Widen
 pub mod Slots
 pub mod Dimension
+pub mod Queue
 pub mod Price
 pub mod Blocks
 pub mod StageOf

@@ -7,10 +7,12 @@ use Rattle.nf_simplex.specs.Ends.{printed, HasEndedOptimal, IsFactor}
 use Rattle.nf_simplex.specs.Numbers.{reduced}
 use Rattle.nf_simplex.specs.Objective.{Improves}
 use Rattle.nf_simplex.specs.Place.{Place, Lower, Upper, Zero, Absent, Basic}
-use Rattle.nf_simplex.specs.Pricing.{HasWrongSign, IsEntrant, WantsOne, IsEligible, Rule, First, Best, Bland, IsPickedBy, IsPicked}
+use Rattle.nf_simplex.specs.Pricing.{HasWrongSign, IsEntrant, WantsOne, IsEligible, Rule, First, Best, Bland, Queue, IsPickedBy, IsPicked}
+use Rattle.nf_simplex.specs.Queue.{PricingState}
 use Rattle.nf_simplex.specs.Stage.{Stage}
 use Rattle.nf_simplex.specs.Step.{CanEnter}
 use Rattle.nf_simplex.proofs.FieldLaws.{add_comm, add-zero, mul-one, mul-inverse, less_irrefl, less_trans, less_cases, add-less, mul-positive}
+use Rattle.nf_simplex.proofs.Queue.{front_once}
 use Rattle.nf_simplex.proofs.Lex.{inverse-positive, neg_positive, not_zero}
 use Rattle.nf_simplex.proofs.Sum.{sum_ext, sum_add, scale_sum}
 use Rattle.nf_simplex.proofs.Terms.{v, nought, unit, minus, ◌:+◌, ◌:*◌, ◌:-◌, ring, mul-zero}
@@ -153,19 +155,20 @@ printed_signs S s x one two y1 y2 m ended factor j c z wrong =
     of Basic q w = subst (λ y. HasWrongSign y (d2 +ℚ m *ℚ d1)) q w
 
 -- The rule picks one column.
-picked_by_unique : (rule : Rule) (cursor : ℕ) (P : ℕ → Type 0) (size : ℕ → ℚ → Type 0) (j k : ℕ) → P j → P k → IsPickedBy rule cursor P size j → IsPickedBy rule cursor P size k → j ≡ k
-picked_by_unique Bland cursor P size j k p q a b = let x = a k q in let y = b j p in omega arith
-picked_by_unique First cursor P size j k p q (inl a) (inl b) = let x = a.1 k q b.0 in let y = b.1 j p a.0 in omega arith
-picked_by_unique First cursor P size j k p q (inl a) (inr b) = let x = b.0 j p in absurd (let y = a.0 in omega arith)
-picked_by_unique First cursor P size j k p q (inr a) (inl b) = let x = a.0 k q in absurd (let y = b.0 in omega arith)
-picked_by_unique First cursor P size j k p q (inr a) (inr b) = let x = a.1 k q in let y = b.1 j p in omega arith
-picked_by_unique Best cursor P size j k p q a b = of (a.2 k b.0 q b.1) (b.2 j a.0 p a.1)
+pub picked_by_unique : (rule : Rule) (at : PricingState) (P : ℕ → Type 0) (size : ℕ → ℚ → Type 0) (j k : ℕ) → P j → P k → IsPickedBy rule at P size j → IsPickedBy rule at P size k → j ≡ k
+picked_by_unique Bland at P size j k p q a b = let x = a k q in let y = b j p in omega arith
+picked_by_unique First at P size j k p q (inl a) (inl b) = let x = a.1 k q b.0 in let y = b.1 j p a.0 in omega arith
+picked_by_unique First at P size j k p q (inl a) (inr b) = let x = b.0 j p in absurd (let y = a.0 in omega arith)
+picked_by_unique First at P size j k p q (inr a) (inl b) = let x = a.0 k q in absurd (let y = b.0 in omega arith)
+picked_by_unique First at P size j k p q (inr a) (inr b) = let x = a.1 k q in let y = b.1 j p in omega arith
+picked_by_unique Best at P size j k p q a b = of (a.2 k b.0 q b.1) (b.2 j a.0 p a.1)
   where
     of : (b.0 <ℚ a.0) ⊎ ((b.0 ≡ a.0) × (j ≤ k)) → (a.0 <ℚ b.0) ⊎ ((a.0 ≡ b.0) × (k ≤ j)) → j ≡ k
     of (inl x) (inl y) = absurd (less_irrefl a.0 (less_trans a.0 b.0 a.0 y x))
     of (inl x) (inr y) = absurd (less_irrefl b.0 (subst (λ z. b.0 <ℚ z) y.0 x))
     of (inr x) (inl y) = absurd (less_irrefl a.0 (subst (λ z. a.0 <ℚ z) x.0 y))
     of (inr x) (inr y) = let u = x.1 in let w = y.1 in omega arith
+picked_by_unique (Queue most) at P size j k p q a b = front_once at P j k a b
 
-pub picked_unique : (S : Stage) (s : ℕ → Place) (x one two y1 y2 : ℕ → ℚ) (rule : Rule) (cursor j k : ℕ) → IsPicked S s x one two y1 y2 rule cursor j → IsPicked S s x one two y1 y2 rule cursor k → j ≡ k
-picked_unique S s x one two y1 y2 rule cursor j k p q = picked_by_unique rule cursor _ _ j k p.eligible q.eligible p.by_rule q.by_rule
+pub picked_unique : (S : Stage) (s : ℕ → Place) (x one two y1 y2 : ℕ → ℚ) (rule : Rule) (at : PricingState) (j k : ℕ) → IsPicked S s x one two y1 y2 rule at j → IsPicked S s x one two y1 y2 rule at k → j ≡ k
+picked_unique S s x one two y1 y2 rule at j k p q = picked_by_unique rule at _ _ j k p.eligible q.eligible p.by_rule q.by_rule

@@ -1,5 +1,5 @@
 -- A basis has its numbers, and what is said by them is said by any of them.
-use Rattle.std.proofs.Common.{◌≡◌, ℕ, ◌+◌, ◌<◌, ◌⊎◌, inl, inr, Option, Some, None, refl, sym, ◌∙◌, subst}
+use Rattle.std.proofs.Common.{◌≡◌, ℕ, ◌+◌, ◌<◌, ◌⊎◌, inl, inr, List, ◌∷◌, Option, Some, None, refl, sym, ◌∙◌, subst}
 use Rattle.nf_num.specs.Rational.{ℚ, zero_ℚ, ◌+ℚ◌, ◌*ℚ◌, neg_ℚ, ◌≤ℚ◌, ◌<ℚ◌}
 use Rattle.nf_num.specs.Sum.{sum_ℚ}
 use Rattle.nf_num.proofs.Order.{eq_or_lt_of_le}
@@ -9,7 +9,8 @@ use Rattle.nf_model.specs.Problem.{IsProblem}
 use Rattle.nf_simplex.specs.Place.{Place, Lower, Upper, Zero, Absent, Basic}
 use Rattle.nf_simplex.specs.Stage.{Stage}
 use Rattle.nf_simplex.specs.Numbers.{StandsAt}
-use Rattle.nf_simplex.specs.Pricing.{Rule, First, Best, Bland, HasWrongSign, WantsOne, IsDeciding, HasSize, IsPickedBy, IsPicked}
+use Rattle.nf_simplex.specs.Pricing.{Rule, First, Best, Bland, Queue, HasWrongSign, WantsOne, IsDeciding, HasSize, IsPickedBy, IsNextQueue, IsPicked}
+use Rattle.nf_simplex.specs.Queue.{PricingState}
 use Rattle.nf_simplex.specs.Layout.{Layout, layout_of}
 use Rattle.nf_simplex.specs.Starts.{or_zero}
 use Rattle.nf_simplex.specs.Columns.{Col, all_columns}
@@ -19,6 +20,7 @@ use Rattle.nf_simplex.specs.Verdicts.{artificial_sum}
 use Rattle.nf_simplex.proofs.Basis.{values_unique, duals_unique, values_by_inverse, duals_by_inverse}
 use Rattle.nf_simplex.proofs.Dimension.{weights_of_basis, inverse_of_basis}
 use Rattle.nf_simplex.proofs.Fits.{layout_fits}
+use Rattle.nf_simplex.proofs.Queue.{front_same, tail_same, tidied_once, tidied_same}
 use Rattle.nf_simplex.proofs.Rows.{ones_total}
 use Rattle.nf_simplex.proofs.Same.{reduced_same, total_same}
 use Rattle.nf_simplex.proofs.Standings.{state_of}
@@ -139,18 +141,27 @@ module _ (p : LinearProgram) (s : Standing) (b : IsBasisOf p s) where
       of (inl (w, e)) = inl (wants_any p s b n m j w, e ∙ reduced_any p s b PhaseOne n.one m.one n.are_duals_one m.are_duals_one j)
       of (inr (w, e)) = inr ((λ x. w (wants_any p s b m n j x)), e ∙ reduced_any p s b PhaseTwo n.two m.two n.are_duals_two m.are_duals_two j)
 
-  by_rule_any : (rule : Rule) (cursor : ℕ) (P Q : ℕ → Type 0) (f g : ℕ → ℚ → Type 0) → ((i : ℕ) → Q i → P i) → ((i : ℕ) (a : ℚ) → f i a → g i a) → ((i : ℕ) (a : ℚ) → g i a → f i a) → (j : ℕ) → IsPickedBy rule cursor P f j → IsPickedBy rule cursor Q g j
-  by_rule_any Bland cursor P Q f g back to from j h = λ i q. h i (back i q)
-  by_rule_any First cursor P Q f g back to from j (inl h) = inl (h.0, λ i q l. h.1 i (back i q) l)
-  by_rule_any First cursor P Q f g back to from j (inr h) = inr ((λ i q. h.0 i (back i q)), λ i q. h.1 i (back i q))
-  by_rule_any Best cursor P Q f g back to from j (a, x, h) = (a, to j a x, λ i c q y. h i c (back i q) (from i c y))
+  by_rule_any : (rule : Rule) (at : PricingState) (P Q : ℕ → Type 0) (f g : ℕ → ℚ → Type 0) → ((i : ℕ) → P i → Q i) → ((i : ℕ) → Q i → P i) → ((i : ℕ) (a : ℚ) → f i a → g i a) → ((i : ℕ) (a : ℚ) → g i a → f i a) → (j : ℕ) → IsPickedBy rule at P f j → IsPickedBy rule at Q g j
+  by_rule_any Bland at P Q f g on back to from j h = λ i q. h i (back i q)
+  by_rule_any First at P Q f g on back to from j (inl h) = inl (h.0, λ i q l. h.1 i (back i q) l)
+  by_rule_any First at P Q f g on back to from j (inr h) = inr ((λ i q. h.0 i (back i q)), λ i q. h.1 i (back i q))
+  by_rule_any Best at P Q f g on back to from j (a, x, h) = (a, to j a x, λ i c q y. h i c (back i q) (from i c y))
+  by_rule_any (Queue most) at P Q f g on back to from j h = front_same at P Q on back j h
 
-  pub picked_any : (n m : Prices p s) (rule : Rule) (cursor j : ℕ) → IsPicked (stage_of p s) (place_at s) n.values (costs_of p PhaseOne) (costs_of p PhaseTwo) n.one n.two rule cursor j
-      → IsPicked (stage_of p s) (place_at s) m.values (costs_of p PhaseOne) (costs_of p PhaseTwo) m.one m.two rule cursor j
-  picked_any n m rule cursor j h = record {
+  pub picked_any : (n m : Prices p s) (rule : Rule) (at : PricingState) (j : ℕ) → IsPicked (stage_of p s) (place_at s) n.values (costs_of p PhaseOne) (costs_of p PhaseTwo) n.one n.two rule at j
+      → IsPicked (stage_of p s) (place_at s) m.values (costs_of p PhaseOne) (costs_of p PhaseTwo) m.one m.two rule at j
+  picked_any n m rule at j h = record {
     eligible = eligible_any n m j h.eligible;
-    by_rule = by_rule_any rule cursor (IsEligibleBy p s n) (IsEligibleBy p s m) _ _ (λ i q. eligible_any m n i q) (size_any n m) (size_any m n) j h.by_rule;
+    by_rule = by_rule_any rule at (IsEligibleBy p s n) (IsEligibleBy p s m) _ _ (λ i q. eligible_any n m i q) (λ i q. eligible_any m n i q) (size_any n m) (size_any m n) j h.by_rule;
   }
+
+  -- A step leaves one queue.
+  pub next_queue_once : (n m : Prices p s) (rule : Rule) (at : PricingState) (xs ys : List ℕ) → IsNextQueue rule at (IsEligibleBy p s n) xs → IsNextQueue rule at (IsEligibleBy p s m) ys → xs ≡ ys
+  next_queue_once n m Bland at xs ys a b = a ∙ sym b
+  next_queue_once n m First at xs ys a b = a ∙ sym b
+  next_queue_once n m Best at xs ys a b = a ∙ sym b
+  next_queue_once n m (Queue most) at xs ys (i, a) (j, b) =
+      tail_same i j xs ys (tidied_once most at (IsEligibleBy p s m) (i ∷ xs) (j ∷ ys) (tidied_same most at (IsEligibleBy p s n) (IsEligibleBy p s m) (λ k q. eligible_any n m k q) (λ k q. eligible_any m n k q) (i ∷ xs) a) b)
 
 -- ---- the sum of the artificials, and the ends
 pub artificials_nonneg : (p : LinearProgram) (s : Standing) → IsProblem p → IsFeasibleState p s → (x : ℕ → ℚ) → AreValuesOf p s x → zero_ℚ ≤ℚ artificial_sum p x

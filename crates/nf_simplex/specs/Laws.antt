@@ -1,7 +1,7 @@
 -- The laws of the simplex method over states: its numbers are the only ones, a step has one next state and lowers the
 -- objective vector, the starts are states, and an ended state has a valid certificate.
 -- The functions of this crate promise them; every verdict of the program rests on them.
-use Rattle.std.specs.Prelude.{◌≡◌, ℕ, List, Bool}
+use Rattle.std.specs.Prelude.{◌≡◌, ℕ, suc, List, ◌∷◌, Bool}
 use Rattle.nf_num.specs.Rational.{ℚ}
 use Rattle.nf_model.specs.Program.{LinearProgram, cost_of, HoldsBelow}
 use Rattle.nf_model.specs.Problem.{IsProblem}
@@ -12,9 +12,10 @@ use Rattle.nf_simplex.specs.Numbers.{AreWeights}
 use Rattle.nf_simplex.specs.Step.{signed}
 use Rattle.nf_simplex.specs.Layout.{layout_of}
 use Rattle.nf_simplex.specs.Columns.{Col}
+use Rattle.nf_simplex.specs.Queue.{PricingState, IsTidied, IsFront}
 use Rattle.nf_simplex.specs.StageOf.{StageOne, IsLast}
 use Rattle.nf_simplex.specs.Standing.{Standing, number_in, HoldsOfColumns, place_at, stage_of, rows_of, Phase, PhaseTwo, IsBasisOf, AreValuesOf, AreDualsOf, reduced_in, IsFeasibleState}
-use Rattle.nf_simplex.specs.Moves.{Prices, IsEligibleIn, WouldLower, CanEnterIn, IsNextOf, IsLowerThan, HasEndedInfeasibleIn, HasEndedOptimalIn, HasEndedUnboundedIn, IsFirstState, IsSecondState}
+use Rattle.nf_simplex.specs.Moves.{Prices, IsEligibleBy, IsEligibleIn, WouldLower, CanEnterIn, IsNextOf, IsLowerThan, HasEndedInfeasibleIn, HasEndedOptimalIn, HasEndedUnboundedIn, IsFirstState, IsSecondState}
 use Rattle.nf_simplex.specs.Verdicts.{artificial_sum, AreGivenValues, ArePrintedDuals, AreFarkasDuals, AreMoves}
 
 -- A basis has one list of values.
@@ -80,3 +81,16 @@ UnboundedHasRay =
     → HasEndedUnboundedIn p s c down
     → (xs rs : List ℚ) → AreGivenValues p s xs → AreMoves p s c down rs
     → IsValidRay p xs rs × ((n : Prices p s) → cost_of p rs ≡ signed down (reduced_in p s PhaseTwo n.two (number_in p c)))
+
+-- A queue is tidied in one way.
+abbrev pub TidiedIsUnique : Type 0
+TidiedIsUnique =
+    (p : LinearProgram) (s : Standing) (n : Prices p s) (size : ℕ) (at : PricingState) (xs ys : List ℕ) → IsTidied size at (IsEligibleBy p s n) xs
+    → IsTidied size at (IsEligibleBy p s n) ys
+    → xs ≡ ys
+
+-- What is picked from a queue is the front of the tidied one.
+abbrev pub FrontIsPicked : Type 0
+FrontIsPicked =
+    (p : LinearProgram) (s : Standing) (n : Prices p s) (size : ℕ) (at : PricingState) (j : ℕ) (ys : List ℕ) → IsTidied size at (IsEligibleBy p s n) (suc j ∷ ys)
+    → IsFront at (IsEligibleBy p s n) j

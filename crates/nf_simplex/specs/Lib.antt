@@ -4,6 +4,7 @@ pub mod Numbers
 pub mod Lex
 pub mod Step
 pub mod Objective
+pub mod Queue
 pub mod Pricing
 pub mod Ends
 pub mod Lists

@@ -1,13 +1,14 @@
 -- The step over states as data: which column is picked, what the next state is, how a state has ended, and the starts.
 -- Pricing, the ratio test and the runs of the simplex method promise it.
-use Rattle.std.specs.Prelude.{◌≡◌, ◌⊎◌, ℕ, suc, ◌+◌, ◌<◌, ◌↔◌, length, Bool, true}
+use Rattle.std.specs.Prelude.{◌≡◌, ◌⊎◌, ℕ, suc, ◌+◌, ◌<◌, ◌↔◌, length, List, Bool, true}
 use Rattle.nf_num.specs.Rational.{ℚ, zero_ℚ, ◌<ℚ◌}
 use Rattle.nf_model.specs.Program.{LinearProgram, HoldsBelow}
 use Rattle.nf_simplex.specs.Place.{Place}
 use Rattle.nf_simplex.specs.Lex.{IsLexLess, IsLexFeasible}
 use Rattle.nf_simplex.specs.Step.{CanEnter, IsNext}
 use Rattle.nf_simplex.specs.Objective.{objective, Improves}
-use Rattle.nf_simplex.specs.Pricing.{Rule, IsEligible, IsPicked}
+use Rattle.nf_simplex.specs.Queue.{PricingState}
+use Rattle.nf_simplex.specs.Pricing.{Rule, IsEligible, IsNextQueue, IsPicked}
 use Rattle.nf_simplex.specs.Ends.{HasEndedInfeasible, HasEndedOptimal, HasEndedUnbounded}
 use Rattle.nf_simplex.specs.Layout.{layout_of}
 use Rattle.nf_simplex.specs.Columns.{Col, Given, Slack, Artificial}
@@ -33,10 +34,14 @@ IsEligibleBy p s n j = IsEligible (stage_of p s) (place_at s) n.values (costs_of
 abbrev pub IsEligibleIn : LinearProgram → Standing → Col → Type 0
 IsEligibleIn p s c = (n : Prices p s) × IsEligibleBy p s n (number_in p c)
 
--- Column c is the eligible one that the rule and the cursor pick.
-abbrev pub IsPickedIn : LinearProgram → Standing → Rule → ℕ → Col → Type 0
-IsPickedIn p s rule cursor c =
-    (n : Prices p s) × IsPicked (stage_of p s) (place_at s) n.values (costs_of p PhaseOne) (costs_of p PhaseTwo) n.one n.two rule cursor (number_in p c)
+-- Column c is the eligible one that the rule picks, with this cursor and queue.
+abbrev pub IsPickedIn : LinearProgram → Standing → Rule → PricingState → Col → Type 0
+IsPickedIn p s rule at c =
+    (n : Prices p s) × IsPicked (stage_of p s) (place_at s) n.values (costs_of p PhaseOne) (costs_of p PhaseTwo) n.one n.two rule at (number_in p c)
+
+-- A step by the rule leaves the queue `next`.
+abbrev pub IsNextQueueIn : LinearProgram → Standing → Rule → PricingState → List ℕ → Type 0
+IsNextQueueIn p s rule at next = (n : Prices p s) × IsNextQueue rule at (IsEligibleBy p s n) next
 
 -- ---- the step
 -- Column c can enter in this direction.

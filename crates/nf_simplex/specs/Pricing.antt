@@ -1,18 +1,20 @@
 -- Which columns are eligible to enter, and which of them a rule picks.
 -- The pricing of each step promises it.
-use Rattle.std.specs.Prelude.{◌≡◌, ◌≢◌, ℕ, ◌<◌, ◌≤◌, ◌⊎◌, Some}
+use Rattle.std.specs.Prelude.{◌≡◌, ◌≢◌, ℕ, ◌<◌, ◌≤◌, ◌⊎◌, Some, List}
 use Rattle.nf_num.specs.Rational.{ℚ, zero_ℚ, ◌*ℚ◌, neg_ℚ, ◌<ℚ◌}
 use Rattle.nf_num.specs.Sum.{sum_ℚ}
 use Rattle.nf_simplex.specs.Place.{Place, Lower, Upper, Zero, Absent, Basic}
 use Rattle.nf_simplex.specs.Stage.{Stage}
 use Rattle.nf_simplex.specs.Numbers.{reduced}
+use Rattle.nf_simplex.specs.Queue.{PricingState, IsFront, IsRestOfQueue}
 
--- The rules: the first column behind the cursor, the one of greatest reduced cost, and the least by number (R. G.
--- Bland, 1977).
+-- The rules: the first column after the cursor, the one of greatest reduced cost, the least by number (R. G. Bland,
+-- 1977), and the front of a queue that is filled up to a size.
 pub data Rule : Type 0 where
   First : Rule
   Best : Rule
   Bland : Rule
+  Queue : ℕ → Rule
 
 -- The reduced cost d of a column that stands here has the wrong sign.
 abbrev pub HasWrongSign : Place → ℚ → Type 0
@@ -55,18 +57,28 @@ IsDeciding S s one two y1 y2 j d = (WantsOne S s one y1 j × (d ≡ reduced S on
 abbrev pub HasSize : (S : Stage) → (ℕ → Place) → (ℕ → ℚ) → (ℕ → ℚ) → (ℕ → ℚ) → (ℕ → ℚ) → ℕ → ℚ → Type 0
 HasSize S s one two y1 y2 j a = (d : ℚ) × IsDeciding S s one two y1 y2 j d × IsMagnitude d a
 
--- Of the columns with P, the rule picks j: by BLAND the least number, by FIRST the least behind the cursor or else the
--- least, by BEST the greatest size and of equal ones the least number. The cursor counts columns from 1, and is 0 where
--- none has been picked: so the columns behind it are those from number `cursor` on.
-abbrev pub IsPickedBy : Rule → ℕ → (ℕ → Type 0) → (ℕ → ℚ → Type 0) → ℕ → Type 0
-IsPickedBy Bland cursor P size j = (i : ℕ) → P i → j ≤ i
-IsPickedBy First cursor P size j =
-    ((cursor ≤ j) × ((i : ℕ) → P i → cursor ≤ i → j ≤ i))
-    ⊎ (((i : ℕ) → P i → i < cursor) × ((i : ℕ) → P i → j ≤ i))
-IsPickedBy Best cursor P size j =
+-- Of the columns with P, the rule picks j: by BLAND the least number, by FIRST the least after the cursor or else the
+-- least, by BEST the greatest size and of equal ones the least number, by QUEUE the front of the tidied queue. The
+-- cursor counts columns from 1, and is 0 where none has been picked: so the columns after it are those from number
+-- `cursor` on.
+abbrev pub IsPickedBy : Rule → PricingState → (ℕ → Type 0) → (ℕ → ℚ → Type 0) → ℕ → Type 0
+IsPickedBy Bland at P size j = (i : ℕ) → P i → j ≤ i
+IsPickedBy First at P size j =
+    ((at.cursor ≤ j) × ((i : ℕ) → P i → at.cursor ≤ i → j ≤ i))
+    ⊎ (((i : ℕ) → P i → i < at.cursor) × ((i : ℕ) → P i → j ≤ i))
+IsPickedBy Best at P size j =
     (a : ℚ) × size j a × ((i : ℕ) (b : ℚ) → P i → size i b → (b <ℚ a) ⊎ ((b ≡ a) × (j ≤ i)))
+IsPickedBy (Queue most) at P size j = IsFront at P j
+
+-- The queue that a step leaves, where the columns with P are eligible: by QUEUE the tidied one without its front; the
+-- other rules leave it as it is.
+abbrev pub IsNextQueue : Rule → PricingState → (ℕ → Type 0) → List ℕ → Type 0
+IsNextQueue Bland at P next = next ≡ at.queue
+IsNextQueue First at P next = next ≡ at.queue
+IsNextQueue Best at P next = next ≡ at.queue
+IsNextQueue (Queue most) at P next = IsRestOfQueue most at P next
 
 -- Column j is the eligible column that the rule picks.
-pub record IsPicked (S : Stage) (s : ℕ → Place) (x one two y1 y2 : ℕ → ℚ) (rule : Rule) (cursor j : ℕ) : Type 0 where
+pub record IsPicked (S : Stage) (s : ℕ → Place) (x one two y1 y2 : ℕ → ℚ) (rule : Rule) (at : PricingState) (j : ℕ) : Type 0 where
   pub eligible : IsEligible S s x one two y1 y2 j
-  pub by_rule : IsPickedBy rule cursor (IsEligible S s x one two y1 y2) (HasSize S s one two y1 y2) j
+  pub by_rule : IsPickedBy rule at (IsEligible S s x one two y1 y2) (HasSize S s one two y1 y2) j

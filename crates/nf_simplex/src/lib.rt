@@ -7,7 +7,7 @@
 //! clause.
 #![tactic(auto)]
 
-ghost use Rattle.nf_simplex.specs.Laws.{DualsAreUnique, EligibleWouldLower, FirstIsFeasible, InfeasibleHasGap, NextIsUnique, OptimalIsBest, SecondIsFeasible, StepsLower, UnboundedHasRay, ValuesAreUnique, WeightsAreUnique};
+ghost use Rattle.nf_simplex.specs.Laws.{DualsAreUnique, EligibleWouldLower, FirstIsFeasible, FrontIsPicked, InfeasibleHasGap, NextIsUnique, OptimalIsBest, SecondIsFeasible, StepsLower, TidiedIsUnique, UnboundedHasRay, ValuesAreUnique, WeightsAreUnique};
 
 /// A basis has one list of values, one list of weights for each right side, and one list of duals for each phase.
 pub fn numbers_are_unique()
@@ -30,6 +30,12 @@ pub fn next_is_unique()
 pub fn steps_lower()
     ensures enters { EligibleWouldLower }
     ensures lowers { StepsLower }
+{}
+
+/// A queue is tidied in one way, and what the rule QUEUE picks is the front of the tidied queue.
+pub fn queue_is_determined()
+    ensures tidied { TidiedIsUnique }
+    ensures front { FrontIsPicked }
 {}
 
 /// The starts of both stages are lexicographically feasible states.
