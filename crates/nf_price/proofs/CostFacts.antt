@@ -40,6 +40,10 @@ paid_two : (p : LinearProgram) (n : ℕ) → paid p Two n ≡ paid p One n + pai
 paid_two p zero = let a = paid_none p Two in let b = paid_none p One in omega (arith, a, b)
 paid_two p (suc n) = omega (arith, paid_suc p Two n, paid_suc p One n, paid_two p n)
 
+pub paid_phase : (p : LinearProgram) (phase : Phase) (n : ℕ) → paid p phase n ≤ paid p Two n
+paid_phase p One n = let a = paid_two p n in omega (arith, a)
+paid_phase p Two n = omega arith
+
 abbrev weight : Column → ℕ
 weight c = 2 * length c.entries + 1
 

@@ -1,7 +1,7 @@
 -- By level duals no given column and no slack has a reduced cost of phase one.
-use Rattle.std.proofs.Common.{◌≡◌, ◌⊎◌, inl, inr, ℕ, ◌+◌, ◌-◌, ◌<◌, ◌≤◌, List, length, Option, Some, None, refl, sym, ap, ap₂, ◌∙◌, subst, arith, [], ◌∷◌}
+use Rattle.std.proofs.Common.{◌≡◌, ◌⊎◌, inl, inr, ℕ, ◌+◌, ◌<◌, ◌≤◌, List, length, Option, Some, None, refl, sym, ap, ap₂, ◌∙◌, subst, arith, [], ◌∷◌}
 use Rattle.std.proofs.lemmas.List.{get_or_past}
-use Rattle.nf_num.specs.Rational.{ℚ, zero_ℚ, ◌+ℚ◌, ◌-ℚ◌, ◌*ℚ◌, neg_ℚ, ◌<ℚ◌}
+use Rattle.nf_num.specs.Rational.{ℚ, zero_ℚ, ◌+ℚ◌, ◌-ℚ◌, ◌*ℚ◌, neg_ℚ}
 use Rattle.nf_num.specs.Sum.{sum_ℚ, delta}
 use Rattle.nf_num.proofs.Order.{lt_irrefl}
 use Rattle.nf_num.proofs.Sums.{sum-split}
@@ -12,16 +12,16 @@ use Rattle.nf_simplex.specs.Layout.{Layout, layout_of}
 use Rattle.nf_simplex.specs.Numbers.{reduced}
 use Rattle.nf_simplex.specs.Place.{Place, Lower, Upper, Zero, Absent, Basic}
 use Rattle.nf_simplex.specs.Pricing.{HasWrongSign}
-use Rattle.nf_simplex.specs.StageOf.{StageNumber, StageOne, StageTwo, rows_in, sides_in}
+use Rattle.nf_simplex.specs.StageOf.{StageNumber, StageOne, StageTwo, rows_in}
 use Rattle.nf_simplex.specs.Standing.{Standing, is_negative, place_at, rows_of, stage_of}
 use Rattle.nf_simplex.proofs.Rows.{ones_priced}
 use Rattle.nf_simplex.proofs.StageOf.{column_given, column_slack}
 use Rattle.nf_simplex.proofs.Sum.{below_or_past, sum_ext, sum_zero, sum_add, sum_neg, sum_unit, unit_other}
-use Rattle.nf_simplex.proofs.Terms.{v, nought, minus, ◌:+◌, ◌:*◌, ◌:-◌, ring}
+use Rattle.nf_simplex.proofs.Terms.{v, nought, ◌:+◌, ◌:*◌, ◌:-◌, ring}
 use Rattle.nf_basis.specs.declared.col.Phase.TheVariants.{One}
 use Rattle.nf_duals.specs.Priced.{count_priced}
 use Rattle.nf_price.specs.Level.{IsLevel}
-use Rattle.nf_price.specs.Wanted.{Wants, WantsNone}
+use Rattle.nf_price.specs.Wanted.{WantsNone}
 use Rattle.nf_price.proofs.ScanFacts.{wanted_within}
 
 -- ---- the loop

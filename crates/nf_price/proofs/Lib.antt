@@ -1,5 +1,9 @@
 pub mod CostFacts
 pub mod ScanFacts
+pub mod QueueFacts
+pub mod TurnFacts
+pub mod MemberCost
 pub mod ChoiceFacts
 pub mod LevelFacts
 pub mod SignFacts
+pub mod NextFacts

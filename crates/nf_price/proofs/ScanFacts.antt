@@ -5,6 +5,7 @@ use Rattle.nf_frac.specs.declared.passed.Passed.{Passed}
 use Rattle.nf_num.specs.Rational.{ℚ, ◌<ℚ◌}
 use Rattle.nf_model.specs.Program.{LinearProgram}
 use Rattle.nf_simplex.specs.Pricing.{IsMagnitude, First, Best, Bland}
+use Rattle.nf_simplex.specs.Queue.{PricingState}
 use Rattle.nf_simplex.specs.Standing.{Standing}
 use Rattle.nf_simplex.proofs.FieldLaws.{less_cases, less_trans}
 use Rattle.nf_simplex.proofs.Orders.{less_or_not}
@@ -86,31 +87,31 @@ module _ (p : LinearProgram) (s : Standing) (phase : Phase) (y1 y2 : List ℚ) w
   not_before : (from j i : ℕ) → WantsNoneIn p s phase y1 y2 from j → from ≤ i → Wants p s phase y1 y2 i → j ≤ i
   not_before from j i h a w = ⊎_elim (λ l. absurd (h i a l w)) (λ l. l) (less_or_not i j)
 
-  pub least_chosen : (cursor : ℕ) (c : Candidate) → IsFirstWanted p s phase y1 y2 0 c → IsChosen p s phase y1 y2 Bland cursor c
-  least_chosen cursor c f = record { candidate = f.candidate; by_rule = λ i w. not_before 0 c.number i f.before (omega arith) w }
+  pub least_chosen : (at : PricingState) (c : Candidate) → IsFirstWanted p s phase y1 y2 0 c → IsChosen p s phase y1 y2 Bland at c
+  least_chosen at c f = record { candidate = f.candidate; by_rule = λ i w. not_before 0 c.number i f.before (omega arith) w }
 
-  pub best_chosen : (cursor : ℕ) (c : Candidate) → IsGreatestBelow p s phase y1 y2 (count_priced p) c → IsChosen p s phase y1 y2 Best cursor c
-  best_chosen cursor c h = record { candidate = h.candidate; by_rule = (c.size, h.candidate.moves.size, λ i b w m. h.greatest i b (wanted_within p s phase y1 y2 i w) w m) }
+  pub best_chosen : (at : PricingState) (c : Candidate) → IsGreatestBelow p s phase y1 y2 (count_priced p) c → IsChosen p s phase y1 y2 Best at c
+  best_chosen at c h = record { candidate = h.candidate; by_rule = (c.size, h.candidate.moves.size, λ i b w m. h.greatest i b (wanted_within p s phase y1 y2 i w) w m) }
 
   -- behind the cursor, which may be past all columns
-  pub next_chosen : (cursor from : ℕ) (c : Candidate) → (from ≡ cursor) ⊎ ((from ≡ count_priced p) × (from ≤ cursor)) → IsFirstWanted p s phase y1 y2 from c → IsChosen p s phase y1 y2 First cursor c
-  next_chosen cursor from c e f =
+  pub next_chosen : (at : PricingState) (from : ℕ) (c : Candidate) → (from ≡ at.cursor) ⊎ ((from ≡ count_priced p) × (from ≤ at.cursor)) → IsFirstWanted p s phase y1 y2 from c → IsChosen p s phase y1 y2 First at c
+  next_chosen at from c e f =
       let b : c.number < count_priced p = wanted_within p s phase y1 y2 c.number f.candidate.wanted in
-      let behind : cursor ≤ c.number = ⊎_elim (λ q. (let h = f.behind in omega (arith, q, h))) (λ q. (let h = f.behind in let z = q.0 in absurd (omega (arith, z, h, b)))) e in
-      let start : from ≤ cursor = ⊎_elim (λ q. omega (arith, q)) (λ q. q.1) e in
+      let behind : at.cursor ≤ c.number = ⊎_elim (λ q. (let h = f.behind in omega (arith, q, h))) (λ q. (let h = f.behind in let z = q.0 in absurd (omega (arith, z, h, b)))) e in
+      let start : from ≤ at.cursor = ⊎_elim (λ q. omega (arith, q)) (λ q. q.1) e in
       record { candidate = f.candidate; by_rule = inl (behind, λ i w l. not_before from c.number i f.before (omega (arith, start, l)) w) }
 
-  pub again_chosen : (cursor from : ℕ) (c : Candidate) → (from ≡ cursor) ⊎ ((from ≡ count_priced p) × (from ≤ cursor)) → WantsNoneIn p s phase y1 y2 from (count_priced p) → IsFirstWanted p s phase y1 y2 0 c → IsChosen p s phase y1 y2 First cursor c
-  again_chosen cursor from c e none f = record { candidate = f.candidate; by_rule = inr (before, λ i w. not_before 0 c.number i f.before (omega arith) w) }
+  pub again_chosen : (at : PricingState) (from : ℕ) (c : Candidate) → (from ≡ at.cursor) ⊎ ((from ≡ count_priced p) × (from ≤ at.cursor)) → WantsNoneIn p s phase y1 y2 from (count_priced p) → IsFirstWanted p s phase y1 y2 0 c → IsChosen p s phase y1 y2 First at c
+  again_chosen at from c e none f = record { candidate = f.candidate; by_rule = inr (before, λ i w. not_before 0 c.number i f.before (omega arith) w) }
     where
-      before : (i : ℕ) → Wants p s phase y1 y2 i → i < cursor
-      before i w = ⊎_elim (λ l. (let start : from ≤ cursor = ⊎_elim (λ q. omega (arith, q)) (λ q. q.1) e in omega (arith, l, start))) (λ l. absurd (none i l (wanted_within p s phase y1 y2 i w) w)) (less_or_not i from)
+      before : (i : ℕ) → Wants p s phase y1 y2 i → i < at.cursor
+      before i w = ⊎_elim (λ l. (let start : from ≤ at.cursor = ⊎_elim (λ q. omega (arith, q)) (λ q. q.1) e in omega (arith, l, start))) (λ l. absurd (none i l (wanted_within p s phase y1 y2 i w) w)) (less_or_not i from)
 
   -- What the scan for the best answers is what BEST picks.
-  best_some : (cursor : ℕ) (r : Option Candidate) → IsBestBelow p s phase y1 y2 (count_priced p) r → IfSome r (IsChosen p s phase y1 y2 Best cursor)
-  best_some cursor None h = tt
-  best_some cursor (Some c) h = best_chosen cursor c h
+  best_some : (at : PricingState) (r : Option Candidate) → IsBestBelow p s phase y1 y2 (count_priced p) r → IfSome r (IsChosen p s phase y1 y2 Best at)
+  best_some at None h = tt
+  best_some at (Some c) h = best_chosen at c h
 
-  pub best_found : (cursor : ℕ) (r : Result (Option Candidate) Passed) → IfOk r (IsBestBelow p s phase y1 y2 (count_priced p)) → IfOk r (λ x. IfSome x (IsChosen p s phase y1 y2 Best cursor))
-  best_found cursor (Ok x) h = best_some cursor x h
-  best_found cursor (Err e) h = h
+  pub best_found : (at : PricingState) (r : Result (Option Candidate) Passed) → IfOk r (IsBestBelow p s phase y1 y2 (count_priced p)) → IfOk r (λ x. IfSome x (IsChosen p s phase y1 y2 Best at))
+  best_found at (Ok x) h = best_some at x h
+  best_found at (Err e) h = h

@@ -1,3 +1,5 @@
+pub mod Queue
+pub mod Turns
 pub mod Rules
 pub mod Choice
 pub mod Level

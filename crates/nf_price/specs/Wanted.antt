@@ -1,6 +1,6 @@
 -- Which columns a phase wants to enter, by the duals handed in, and which of them a rule picks.
 -- The loops of pricing keep these; `choose` promises the definitions of eligible and picked columns.
-use Rattle.std.specs.Prelude.{◌≡◌, ◌≢◌, ◌⊎◌, ℕ, ◌<◌, ◌≤◌, List, Option, None, Some}
+use Rattle.std.specs.Prelude.{◌≡◌, ◌≢◌, ◌⊎◌, ℕ, ◌<◌, ◌≤◌, List, [], Option, None, Some}
 use Rattle.nf_num.specs.Rational.{ℚ, ◌<ℚ◌}
 use Rattle.nf_model.specs.Program.{LinearProgram, at}
 use Rattle.nf_simplex.specs.Columns.{col_at, col_lower, col_upper, ones, twos}
@@ -8,6 +8,7 @@ use Rattle.nf_simplex.specs.Layout.{layout_of}
 use Rattle.nf_simplex.specs.Numbers.{reduced}
 use Rattle.nf_simplex.specs.Objective.{Improves}
 use Rattle.nf_simplex.specs.Pricing.{Rule, IsMagnitude, IsPickedBy, WantsOne, WantsTwo}
+use Rattle.nf_simplex.specs.Queue.{PricingState, OfNumber, AreKept}
 use Rattle.nf_simplex.specs.Standing.{Standing, place_at, stage_of}
 use Rattle.nf_basis.specs.declared.col.Phase.{Phase}
 use Rattle.nf_basis.specs.declared.col.Phase.TheVariants.{One, Two}
@@ -34,6 +35,18 @@ HasMagnitude p s phase y1 y2 j a = IsMagnitude (cost_in p s phase y1 y2 j) a
 -- A phase wants no column from number `from` on and below `to`.
 abbrev pub WantsNoneIn : LinearProgram → Standing → Phase → List ℚ → List ℚ → ℕ → ℕ → Type 0
 WantsNoneIn p s phase y1 y2 from to = (i : ℕ) → from ≤ i → i < to → Wants p s phase y1 y2 i → ⊥
+
+-- A phase wants the column with this number, counted from 1.
+abbrev pub WantsNumber : LinearProgram → Standing → Phase → List ℚ → List ℚ → ℕ → Type 0
+WantsNumber p s phase y1 y2 n = OfNumber (Wants p s phase y1 y2) n
+
+-- A phase wants none of the members of a queue.
+abbrev pub WantsNoMember : LinearProgram → Standing → Phase → List ℚ → List ℚ → List ℕ → Type 0
+WantsNoMember p s phase y1 y2 queue = AreKept (WantsNumber p s phase y1 y2) queue []
+
+-- A phase wants some column.
+abbrev pub WantsSome : LinearProgram → Standing → Phase → List ℚ → List ℚ → Type 0
+WantsSome p s phase y1 y2 = (j : ℕ) × Wants p s phase y1 y2 j
 
 -- A phase wants no column.
 abbrev pub WantsNone : LinearProgram → Standing → Phase → List ℚ → List ℚ → Type 0
@@ -69,9 +82,9 @@ IsBestBelow p s phase y1 y2 n None = WantsNoneIn p s phase y1 y2 0 n
 IsBestBelow p s phase y1 y2 n (Some c) = IsGreatestBelow p s phase y1 y2 n c
 
 -- The candidate is the one that the rule picks of those that a phase wants.
-pub record IsChosen (p : LinearProgram) (s : Standing) (phase : Phase) (y1 y2 : List ℚ) (rule : Rule) (cursor : ℕ) (c : Candidate) : Type 0 where
+pub record IsChosen (p : LinearProgram) (s : Standing) (phase : Phase) (y1 y2 : List ℚ) (rule : Rule) (at : PricingState) (c : Candidate) : Type 0 where
   pub candidate : IsCandidate p s phase y1 y2 c
-  pub by_rule : IsPickedBy rule cursor (Wants p s phase y1 y2) (HasMagnitude p s phase y1 y2) c.number
+  pub by_rule : IsPickedBy rule at (Wants p s phase y1 y2) (HasMagnitude p s phase y1 y2) c.number
 
 -- Of the candidate so far and the next one, the next one where it is greater.
 abbrev pub IsBetter : Option Candidate → Candidate → Option Candidate → Type 0

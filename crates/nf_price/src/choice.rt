@@ -11,14 +11,17 @@ ghost use Rattle.nf_basis.specs.Kept.{IsNonbasic, IsStateOf, number};
 ghost use Rattle.nf_basis.specs.Names.{col_of, named};
 ghost use Rattle.nf_basis.specs.Numbers.{AreDualsByRow};
 ghost use Rattle.nf_duals.specs.Priced.{HasDuals, count_priced};
-ghost use Rattle.nf_price.specs.Choice.{HasEnded, TellsShort};
+ghost use Rattle.nf_price.specs.Choice.{HasEligible, HasEnded, TellsShort};
 ghost use Rattle.nf_price.specs.Cost.{paid};
-ghost use Rattle.nf_price.specs.Rules.{rule_of};
+ghost use Rattle.nf_price.specs.Queue.{pricing};
+ghost use Rattle.nf_price.specs.Rules.{HasSize, rule_of};
 ghost use Rattle.nf_price.specs.Wanted.{IsChosen, Wants, WantsNone};
 
 use crate::candidate::Candidate;
+use crate::front::front_of;
 use crate::level::is_level;
 use crate::pick::Pick;
+use crate::queue::Queue;
 use crate::rule::Rule;
 use crate::scan::{first_wanted, greatest_wanted};
 use nf_basis::{Phase, State};
@@ -32,7 +35,8 @@ use std::sync::ledger::Ledger;
 ///
 /// `duals_one` and `duals_two` are the state's duals of the two phases, by row of the stage, and `short` says whether
 /// its artificials sum to more than 0. The cursor is the number of the column that was picked last, and 0 where none
-/// was: given columns by number, and then the slack of row i as number `columns + i - nodes`.
+/// was: given columns by number, and then the slack of row i as number `columns + i - nodes`. The numbers of the queue are
+/// such numbers too, and only the rule QUEUE reads it.
 ///
 /// Phase one decides wherever it wants a column. Where it wants none, the state has ended infeasible where it is short,
 /// and else phase two decides among the columns with the phase-one reduced cost 0.
@@ -44,25 +48,28 @@ pub fn choose<L: Ledger>(
     state: &State,
     rule: Rule,
     cursor: u32,
+    queue: &Queue,
     short: bool,
     duals_one: &[Frac],
     duals_two: &[Frac],
     steps: &mut Steps<L>,
 ) -> Result<Option<Pick>, Passed>
     requires state { IsStateOf p.now state.now }
+    requires size { HasSize rule }
     requires places_one { length duals_one.now ≡ rows_of p.now state.now.standing }
     requires places_two { length duals_two.now ≡ rows_of p.now state.now.standing }
     requires duals_one { AreDualsByRow p.now state.now.standing Phase.One duals_one.now }
     requires duals_two { AreDualsByRow p.now state.now.standing Phase.Two duals_two.now }
     requires short { TellsShort p.now state.now.standing short }
-    ensures picked { IfOk result (λ r. IfSome r (λ q. IsPickedIn p.now state.now.standing (rule_of rule) cursor (col_of q.col))) }
+    ensures picked { IfOk result (λ r. IfSome r (λ q. IsPickedIn p.now state.now.standing (rule_of rule) (pricing cursor queue.now) (col_of q.col))) }
     ensures nonbasic { IfOk result (λ r. IfSome r (λ q. IsNonbasic p.now state.now.standing q.col)) }
     ensures lowers { IfOk result (λ r. IfSome r (λ q. WouldLower p.now state.now.standing (col_of q.col) q.down)) }
+    ensures eligible { IfOk result (λ r. IfSome r (λ _. HasEligible p.now state.now.standing duals_one.now duals_two.now short)) }
     ensures ended { IfOk result (λ r. IfNone r (HasEnded p.now state.now.standing short)) }
     ensures passed { IfErr result (PassesIn (StateTerms p.now state.now.standing)) }
     ensures cost { steps.new ≤ steps.old + 16 * size p.now state.now.standing.stage }
 {
-    if let Some(c) = chosen_one(p, state, rule, cursor, duals_one, duals_two, steps)? {
+    if let Some(c) = chosen_one(p, state, rule, cursor, queue, duals_one, duals_two, steps)? {
         return Ok(Some(picked(p, c)));
     }
     if short {
@@ -74,6 +81,7 @@ pub fn choose<L: Ledger>(
         Phase::Two,
         rule,
         cursor,
+        queue,
         duals_one,
         duals_two,
         steps,
@@ -104,6 +112,7 @@ fn chosen_one<L: Ledger>(
     state: &State,
     rule: Rule,
     cursor: u32,
+    queue: &Queue,
     one: &[Frac],
     two: &[Frac],
     steps: &mut Steps<L>,
@@ -111,7 +120,7 @@ fn chosen_one<L: Ledger>(
     requires state { IsStateOf p.now state.now }
     requires one { HasDuals p.now state.now.standing Phase.One one.now }
     requires two { HasDuals p.now state.now.standing Phase.Two two.now }
-    ensures some { IfOk result (λ r. IfSome r (IsChosen p.now state.now.standing Phase.One one.now two.now (rule_of rule) cursor)) }
+    ensures some { IfOk result (λ r. IfSome r (IsChosen p.now state.now.standing Phase.One one.now two.now (rule_of rule) (pricing cursor queue.now))) }
     ensures none { IfOk result (λ r. IfNone r (WantsNone p.now state.now.standing Phase.One one.now two.now)) }
     ensures passed { IfErr result (PassesIn (StateTerms p.now state.now.standing)) }
     ensures cost { steps.new ≤ steps.old + paid p.now Phase.One (count_priced p.now) }
@@ -119,7 +128,7 @@ fn chosen_one<L: Ledger>(
     if is_level(p, one) {
         return Ok(None);
     }
-    let c = chosen(p, state, Phase::One, rule, cursor, one, two, steps)?;
+    let c = chosen(p, state, Phase::One, rule, cursor, queue, one, two, steps)?;
     Ok(c)
 }
 
@@ -130,6 +139,7 @@ fn chosen<L: Ledger>(
     phase: Phase,
     rule: Rule,
     cursor: u32,
+    queue: &Queue,
     one: &[Frac],
     two: &[Frac],
     steps: &mut Steps<L>,
@@ -137,7 +147,7 @@ fn chosen<L: Ledger>(
     requires state { IsStateOf p.now state.now }
     requires one { HasDuals p.now state.now.standing Phase.One one.now }
     requires two { HasDuals p.now state.now.standing Phase.Two two.now }
-    ensures some { IfOk result (λ r. IfSome r (IsChosen p.now state.now.standing phase one.now two.now (rule_of rule) cursor)) }
+    ensures some { IfOk result (λ r. IfSome r (IsChosen p.now state.now.standing phase one.now two.now (rule_of rule) (pricing cursor queue.now))) }
     ensures none { IfOk result (λ r. IfNone r (WantsNone p.now state.now.standing phase one.now two.now)) }
     ensures passed { IfErr result (PassesIn (StateTerms p.now state.now.standing)) }
     ensures cost { steps.new ≤ steps.old + paid p.now phase (count_priced p.now) }
@@ -153,5 +163,6 @@ fn chosen<L: Ledger>(
                 None => first_wanted(p, state, phase, one, two, 0, from, steps),
             }
         }
+        Rule::Queue { size: _ } => front_of(p, state, phase, cursor, queue, one, two, steps),
     }
 }

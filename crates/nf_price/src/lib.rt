@@ -3,12 +3,17 @@
 
 mod candidate;
 mod choice;
+mod front;
 mod level;
+mod next_queue;
 mod pick;
+mod queue;
 mod rule;
 mod scan;
 mod wanted;
 
 pub use choice::choose;
+pub use next_queue::advance;
 pub use pick::Pick;
+pub use queue::Queue;
 pub use rule::Rule;

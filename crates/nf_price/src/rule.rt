@@ -9,4 +9,7 @@ pub enum Rule {
     Best,
     /// The least number (R. G. Bland, New finite pivoting rules for the simplex method, 1977).
     Bland,
+    /// The front of the candidate queue, which is filled with so many columns when none of its members is eligible. The
+    /// size is from 1 to 999.
+    Queue { size: u32 },
 }

@@ -4,6 +4,7 @@ use Rattle.nf_num.specs.Rational.{zero_ℚ, ◌<ℚ◌}
 use Rattle.nf_simplex.specs.Verdicts.{artificial_sum}
 use Rattle.nf_basis.specs.declared.col.Phase.TheVariants.{One, Two}
 use Rattle.nf_price.specs.Choice.{HasEnded}
+use Rattle.nf_price.specs.Queue.{pricing}
 use Rattle.nf_price.specs.Rules.{rule_of}
 use Rattle.nf_price.specs.Wanted.{IsChosen, WantsNone}
 use Rattle.nf_price.proofs.ChoiceFacts.{ended_best, ended_short, lowers_one, lowers_two, picked_in, picked_one, picked_two, wanted_nonbasic}
@@ -22,8 +23,8 @@ returns-in-Some-clause-picked g c =
     let x = c.requires.short.0 in
     let v = c.requires.short.1 in
     let rule = rule_of c.args.rule in
-    picked_in p s x y1 y2 v c.requires.duals_one c.requires.duals_two rule c.args.cursor c.in-Some.c.number c.picked.result.col c.picked.ensures.number
-    (picked_one p s x y1 y2 v c.requires.duals_one c.requires.duals_two rule c.args.cursor c.in-Some.c (subst (λ r. IfSome r (IsChosen p s One y1 y2 rule c.args.cursor)) c.in-Some.is c.in_ok-c.ensures.some))
+    picked_in p s x y1 y2 v c.requires.duals_one c.requires.duals_two rule (pricing c.args.cursor c.args.queue.now) c.in-Some.c.number c.picked.result.col c.picked.ensures.number
+    (picked_one p s x y1 y2 v c.requires.duals_one c.requires.duals_two rule (pricing c.args.cursor c.args.queue.now) c.in-Some.c (subst (λ r. IfSome r (IsChosen p s One y1 y2 rule (pricing c.args.cursor c.args.queue.now))) c.in-Some.is c.in_ok-c.ensures.some))
 
 pub returns-in-Some-clause-lowers : goal.returns-in-Some-clause-lowers
 returns-in-Some-clause-lowers g c =
@@ -31,7 +32,7 @@ returns-in-Some-clause-lowers g c =
     let s = c.args.state.now.standing in
     let y1 = c.args.duals_one.now in
     let y2 = c.args.duals_two.now in
-    let chosen : IsChosen p s One y1 y2 (rule_of c.args.rule) c.args.cursor c.in-Some.c = subst (λ r. IfSome r (IsChosen p s One y1 y2 (rule_of c.args.rule) c.args.cursor)) c.in-Some.is c.in_ok-c.ensures.some in
+    let chosen : IsChosen p s One y1 y2 (rule_of c.args.rule) (pricing c.args.cursor c.args.queue.now) c.in-Some.c = subst (λ r. IfSome r (IsChosen p s One y1 y2 (rule_of c.args.rule) (pricing c.args.cursor c.args.queue.now))) c.in-Some.is c.in_ok-c.ensures.some in
     lowers_one p s c.requires.state.problem c.requires.short.0 y1 y2 c.requires.short.1 c.requires.duals_one c.requires.duals_two c.in-Some.c c.picked.result.col c.picked.result.down c.picked.ensures.number c.picked.ensures.down chosen.candidate
 
 pub returns-in-Some-clause-nonbasic : goal.returns-in-Some-clause-nonbasic
@@ -40,7 +41,7 @@ returns-in-Some-clause-nonbasic g c =
     let s = c.args.state.now.standing in
     let y1 = c.args.duals_one.now in
     let y2 = c.args.duals_two.now in
-    let chosen : IsChosen p s One y1 y2 (rule_of c.args.rule) c.args.cursor c.in-Some.c = subst (λ r. IfSome r (IsChosen p s One y1 y2 (rule_of c.args.rule) c.args.cursor)) c.in-Some.is c.in_ok-c.ensures.some in
+    let chosen : IsChosen p s One y1 y2 (rule_of c.args.rule) (pricing c.args.cursor c.args.queue.now) c.in-Some.c = subst (λ r. IfSome r (IsChosen p s One y1 y2 (rule_of c.args.rule) (pricing c.args.cursor c.args.queue.now))) c.in-Some.is c.in_ok-c.ensures.some in
     wanted_nonbasic p c.args.state.now One y1 y2 c.in-Some.c.number c.picked.result.col c.requires.state chosen.candidate.wanted c.picked.ensures.number c.picked.ensures.column c.picked.ensures.named
 
 pub returns-in-Some-clause-cost : goal.returns-in-Some-clause-cost
@@ -75,9 +76,9 @@ returns-in-Some-2-clause-picked g c =
     let rule = rule_of c.args.rule in
     let short : c.args.short ≡ false = search rules in
     let none : WantsNone p s One y1 y2 = subst (λ r. IfNone r (WantsNone p s One y1 y2)) c.in_default.is c.in_ok-c.ensures.none in
-    picked_in p s x y1 y2 v c.requires.duals_one c.requires.duals_two rule c.args.cursor c.in-Some-2.c.number c.picked-in-Some-2.result.col c.picked-in-Some-2.ensures.number
-    (picked_two p s x y1 y2 v c.requires.duals_one c.requires.duals_two rule c.args.cursor c.in-Some-2.c none (subst (λ b. MatchBool b (zero_ℚ <ℚ artificial_sum p x) (artificial_sum p x ≡ zero_ℚ)) short c.requires.short.2)
-    (subst (λ r. IfSome r (IsChosen p s Two y1 y2 rule c.args.cursor)) c.in-Some-2.is c.in_ok-c-2.ensures.some))
+    picked_in p s x y1 y2 v c.requires.duals_one c.requires.duals_two rule (pricing c.args.cursor c.args.queue.now) c.in-Some-2.c.number c.picked-in-Some-2.result.col c.picked-in-Some-2.ensures.number
+    (picked_two p s x y1 y2 v c.requires.duals_one c.requires.duals_two rule (pricing c.args.cursor c.args.queue.now) c.in-Some-2.c none (subst (λ b. MatchBool b (zero_ℚ <ℚ artificial_sum p x) (artificial_sum p x ≡ zero_ℚ)) short c.requires.short.2)
+    (subst (λ r. IfSome r (IsChosen p s Two y1 y2 rule (pricing c.args.cursor c.args.queue.now))) c.in-Some-2.is c.in_ok-c-2.ensures.some))
 
 pub returns-in-Some-2-clause-nonbasic : goal.returns-in-Some-2-clause-nonbasic
 returns-in-Some-2-clause-nonbasic g c =
@@ -85,7 +86,7 @@ returns-in-Some-2-clause-nonbasic g c =
     let s = c.args.state.now.standing in
     let y1 = c.args.duals_one.now in
     let y2 = c.args.duals_two.now in
-    let chosen : IsChosen p s Two y1 y2 (rule_of c.args.rule) c.args.cursor c.in-Some-2.c = subst (λ r. IfSome r (IsChosen p s Two y1 y2 (rule_of c.args.rule) c.args.cursor)) c.in-Some-2.is c.in_ok-c-2.ensures.some in
+    let chosen : IsChosen p s Two y1 y2 (rule_of c.args.rule) (pricing c.args.cursor c.args.queue.now) c.in-Some-2.c = subst (λ r. IfSome r (IsChosen p s Two y1 y2 (rule_of c.args.rule) (pricing c.args.cursor c.args.queue.now))) c.in-Some-2.is c.in_ok-c-2.ensures.some in
     let told = c.picked-in-Some-2.ensures in
     wanted_nonbasic p c.args.state.now Two y1 y2 c.in-Some-2.c.number c.picked-in-Some-2.result.col c.requires.state chosen.candidate.wanted told.number told.column told.named
 
@@ -98,7 +99,7 @@ returns-in-Some-2-clause-lowers g c =
     let x = c.requires.short.0 in
     let short : c.args.short ≡ false = search rules in
     let none : WantsNone p s One y1 y2 = subst (λ r. IfNone r (WantsNone p s One y1 y2)) c.in_default.is c.in_ok-c.ensures.none in
-    let chosen : IsChosen p s Two y1 y2 (rule_of c.args.rule) c.args.cursor c.in-Some-2.c = subst (λ r. IfSome r (IsChosen p s Two y1 y2 (rule_of c.args.rule) c.args.cursor)) c.in-Some-2.is c.in_ok-c-2.ensures.some in
+    let chosen : IsChosen p s Two y1 y2 (rule_of c.args.rule) (pricing c.args.cursor c.args.queue.now) c.in-Some-2.c = subst (λ r. IfSome r (IsChosen p s Two y1 y2 (rule_of c.args.rule) (pricing c.args.cursor c.args.queue.now))) c.in-Some-2.is c.in_ok-c-2.ensures.some in
     lowers_two p s c.requires.state.problem x y1 y2 c.requires.short.1 c.requires.duals_one c.requires.duals_two c.in-Some-2.c c.picked-in-Some-2.result.col c.picked-in-Some-2.result.down c.picked-in-Some-2.ensures.number c.picked-in-Some-2.ensures.down none
     (subst (λ b. MatchBool b (zero_ℚ <ℚ artificial_sum p x) (artificial_sum p x ≡ zero_ℚ)) short c.requires.short.2) chosen.candidate
 

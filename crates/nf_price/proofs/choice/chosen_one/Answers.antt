@@ -1,4 +1,4 @@
-use Rattle.std.proofs.Common.{◌≤◌, arith}
+use Rattle.std.proofs.Common.{arith}
 use Rattle.nf_price.proofs.LevelFacts.{level_none, nodes_first}
 use Rattle.nf_price.proofs.choice.chosen_one.Goals as goal
 

@@ -1,4 +1,4 @@
-use Rattle.std.proofs.Common.{◌≡◌, ◌<◌, ◌≤◌, ◌∙◌, arith, length, sym}
+use Rattle.std.proofs.Common.{◌≡◌, ◌∙◌, arith, length, sym}
 use Rattle.std.proofs.lemmas.List.{get_or_read}
 use Rattle.nf_num.specs.Rational.{zero_ℚ}
 use Rattle.nf_model.specs.Program.{at}
