@@ -1,13 +1,12 @@
 -- A run has one halt and one end: of two runs one goes on from where the other has come, and where a halt is due no run
 -- goes on.
-use Rattle.std.proofs.Common.{◌≡◌, ◌⊎◌, inl, inr, ℕ, ◌<◌, ◌≤◌, refl, sym, ap, ◌∙◌, subst, arith}
+use Rattle.std.proofs.Common.{◌≡◌, ◌⊎◌, inl, inr, ℕ, ◌<◌, ◌≤◌, refl, sym, ap, subst, arith}
 use Rattle.nf_model.specs.Program.{LinearProgram}
 use Rattle.nf_model.specs.Problem.{IsProblem}
 use Rattle.nf_simplex.specs.Standing.{IsFeasibleState}
-use Rattle.nf_basis.specs.declared.col.Col.{Col}
 use Rattle.nf_price.specs.declared.rule.Rule.{Rule}
 use Rattle.nf_engine.specs.declared.halt.Halt.{Halt}
-use Rattle.nf_engine.specs.declared.halt.Halt.TheVariants.{Ended, Limit, Pause, Feasible}
+use Rattle.nf_engine.specs.declared.halt.Halt.TheVariants.{Ended}
 use Rattle.nf_engine.specs.declared.halt.Pauses.{Pauses}
 use Rattle.nf_engine.specs.Point.{Point}
 use Rattle.nf_engine.specs.Run.{GoesOn, GoesOnTo, Halts, IsFeasibleDue, IsPauseDue, RunsTo}
@@ -23,7 +22,7 @@ module _ (p : LinearProgram) (ok : IsProblem p) (rule : Rule) (most : ℕ) (paus
   -- ---- paths
   on_feasible : (a b : Point) → IsFeasibleState p a.standing → GoesOn p rule most pauses a b → IsFeasibleState p b.standing
   on_feasible a _ f here = f
-  on_feasible a _ f (further m b on to) = to.step.feasible
+  on_feasible a _ f (further m b on to) = to.step.moves.feasible
 
   -- A path has a first step, or is none.
   first : (a b : Point) → GoesOn p rule most pauses a b → (a ≡ b) ⊎ ((m : Point) × GoesOnTo p rule most pauses a m × GoesOn p rule most pauses m b)
@@ -50,7 +49,7 @@ module _ (p : LinearProgram) (ok : IsProblem p) (rule : Rule) (most : ℕ) (paus
   -- ---- halts
   -- Where a halt is due no path goes on.
   no_more : (a b e : Point) (h : Halt) → IsFeasibleState p a.standing → GoesOnTo p rule most pauses a b → Halts p rule most pauses a h e → ⊥
-  no_more a b _ _ f x (ended m end) = step_no_end p ok rule a f x.column b x.step m end
+  no_more a b _ _ f x (ended m end) = step_no_end p ok rule a f x.column b.standing x.step.moves m end
   no_more a b _ _ f x (limit c e step full) = let h = x.below in omega (arith, h, full)
   no_more a b _ _ f x (pause c e below step due) = x.no_pause (subst (λ z. IsPauseDue pauses z.pivots) (sym (step_once p ok rule a f x.column c b e x.step step).1) due)
   no_more a b _ _ f x (feasible c e below step none due) = x.not_feasible (subst (λ z. IsFeasibleDue p pauses a z) (sym (step_once p ok rule a f x.column c b e x.step step).1) due)
@@ -61,18 +60,18 @@ module _ (p : LinearProgram) (ok : IsProblem p) (rule : Rule) (most : ℕ) (paus
   -- One halt is due, and leads to one point.
   halt_once : (a b e : Point) (h k : Halt) → IsFeasibleState p a.standing → Halts p rule most pauses a h b → Halts p rule most pauses a k e → (h ≡ k) × (b ≡ e)
   halt_once a _ _ _ _ f (ended m x) (ended n y) = (ap Ended (end_once p ok rule a f m n x y), refl)
-  halt_once a _ _ _ _ f (ended m x) (limit c b step full) = absurd (step_no_end p ok rule a f c b step m x)
-  halt_once a _ _ _ _ f (ended m x) (pause c b below step due) = absurd (step_no_end p ok rule a f c b step m x)
-  halt_once a _ _ _ _ f (ended m x) (feasible c b below step none due) = absurd (step_no_end p ok rule a f c b step m x)
-  halt_once a _ _ _ _ f (limit c b step full) (ended m x) = absurd (step_no_end p ok rule a f c b step m x)
+  halt_once a _ _ _ _ f (ended m x) (limit c t step full) = absurd (step_no_end p ok rule a f c t step m x)
+  halt_once a _ _ _ _ f (ended m x) (pause c b below step due) = absurd (step_no_end p ok rule a f c b.standing step.moves m x)
+  halt_once a _ _ _ _ f (ended m x) (feasible c b below step none due) = absurd (step_no_end p ok rule a f c b.standing step.moves m x)
+  halt_once a _ _ _ _ f (limit c t step full) (ended m x) = absurd (step_no_end p ok rule a f c t step m x)
   halt_once a _ _ _ _ f (limit c b step full) (limit d e other past) = (refl, refl)
   halt_once a _ _ _ _ f (limit c b step full) (pause d e below other due) = passed a.pivots below full
   halt_once a _ _ _ _ f (limit c b step full) (feasible d e below other none due) = passed a.pivots below full
-  halt_once a _ _ _ _ f (pause c b below step due) (ended m x) = absurd (step_no_end p ok rule a f c b step m x)
+  halt_once a _ _ _ _ f (pause c b below step due) (ended m x) = absurd (step_no_end p ok rule a f c b.standing step.moves m x)
   halt_once a _ _ _ _ f (pause c b below step due) (limit d e other full) = passed a.pivots below full
   halt_once a _ _ _ _ f (pause c b below step due) (pause d e less other again) = (refl, (step_once p ok rule a f c d b e step other).1)
   halt_once a _ _ _ _ f (pause c b below step due) (feasible d e less other none met) = absurd (none (subst (λ z. IsPauseDue pauses z.pivots) (step_once p ok rule a f c d b e step other).1 due))
-  halt_once a _ _ _ _ f (feasible c b below step none met) (ended m x) = absurd (step_no_end p ok rule a f c b step m x)
+  halt_once a _ _ _ _ f (feasible c b below step none met) (ended m x) = absurd (step_no_end p ok rule a f c b.standing step.moves m x)
   halt_once a _ _ _ _ f (feasible c b below step none met) (limit d e other full) = passed a.pivots below full
   halt_once a _ _ _ _ f (feasible c b below step none met) (pause d e less other due) = absurd (none (subst (λ z. IsPauseDue pauses z.pivots) (sym (step_once p ok rule a f c d b e step other).1) due))
   halt_once a _ _ _ _ f (feasible c b below step none met) (feasible d e less other not_due again) = (refl, (step_once p ok rule a f c d b e step other).1)

@@ -1,5 +1,5 @@
 -- One thing is due at a point: a step, which is the only one, or an end, which is the only one.
-use Rattle.std.proofs.Common.{◌≡◌, ◌⊎◌, inl, inr, ℕ, suc, ◌-◌, ◌<◌, ◌≤◌, Bool, true, false, refl, sym, ap, ◌∙◌, subst, subst₂, arith}
+use Rattle.std.proofs.Common.{◌≡◌, ◌⊎◌, inl, inr, ℕ, suc, ◌-◌, ◌<◌, Bool, true, false, refl, sym, ap, ◌∙◌, subst, subst₂, arith}
 use Rattle.nf_num.specs.Rational.{ℚ, zero_ℚ, ◌<ℚ◌}
 use Rattle.nf_num.proofs.Order.{lt_irrefl}
 use Rattle.nf_model.specs.Program.{LinearProgram}
@@ -8,13 +8,15 @@ use Rattle.nf_simplex.specs.Layout.{layout_of}
 use Rattle.nf_simplex.specs.Columns.{col_at}
 use Rattle.nf_simplex.specs.Columns as columns
 use Rattle.nf_simplex.specs.Objective.{Improves}
-use Rattle.nf_simplex.specs.Pricing.{Rule, First, Best, Bland, IsEligible, IsPickedBy, HasSize}
+use Rattle.nf_simplex.specs.Pricing.{IsEligible, HasSize}
+use Rattle.nf_simplex.specs.Queue.{PricingState}
 use Rattle.nf_simplex.specs.Standing.{Standing, number_in, place_at, stage_of, IsBasisOf, IsFeasibleState, PhaseOne, PhaseTwo, costs_of, reduced_in}
 use Rattle.nf_simplex.specs.Verdicts.{artificial_sum}
-use Rattle.nf_simplex.specs.Moves.{Prices, IsEligibleBy, IsEligibleIn, IsNextOf, IsPickedIn, WouldLower, HasEndedInfeasibleIn, HasEndedOptimalIn}
+use Rattle.nf_simplex.specs.Moves.{Prices, IsEligibleBy, IsEligibleIn, IsNextOf, WouldLower, HasEndedInfeasibleIn, HasEndedOptimalIn}
 use Rattle.nf_simplex.proofs.FieldLaws.{less_trans}
 use Rattle.nf_simplex.proofs.Numbered.{col_number}
-use Rattle.nf_simplex.proofs.Prices.{artificial_sum_any, eligible_any, picked_any, reduced_any}
+use Rattle.nf_simplex.proofs.Price.{picked_by_unique}
+use Rattle.nf_simplex.proofs.Prices.{artificial_sum_any, eligible_any, next_queue_once, picked_any, reduced_any}
 use Rattle.nf_simplex.proofs.Standings.{next_is_unique}
 use Rattle.nf_basis.specs.declared.col.Col.{Col}
 use Rattle.nf_basis.specs.declared.col.Col.TheVariants.{Given, Slack, Artificial}
@@ -25,24 +27,7 @@ use Rattle.nf_price.specs.declared.rule.Rule.{Rule as RuleName}
 use Rattle.nf_engine.specs.declared.halt.Moved.{Moved}
 use Rattle.nf_engine.specs.declared.halt.Moved.TheVariants as moved
 use Rattle.nf_engine.specs.Point.{Point}
-use Rattle.nf_engine.specs.Steps.{Picks, StepsBy, HasEnded, HasNoBoundAt}
-
--- ---- a rule
-module _ (P : ℕ → Type 0) (size : ℕ → ℚ → Type 0) where
-  greater : (a b : ℚ) (i j : ℕ) → (b <ℚ a) ⊎ ((b ≡ a) × (j ≤ i)) → (a <ℚ b) ⊎ ((a ≡ b) × (i ≤ j)) → j ≡ i
-  greater a b i j (inl l) (inl m) = absurd (lt_irrefl a (less_trans a b a m l))
-  greater a b i j (inl l) (inr m) = absurd (lt_irrefl a (subst (λ z. z <ℚ a) (sym m.0) l))
-  greater a b i j (inr l) (inl m) = absurd (lt_irrefl a (subst (λ z. a <ℚ z) l.0 m))
-  greater a b i j (inr l) (inr m) = let x = l.1 in let y = m.1 in omega (arith, x, y)
-
-  -- A rule picks one number.
-  by_rule_once : (r : Rule) (cursor i j : ℕ) → P i → P j → IsPickedBy r cursor P size i → IsPickedBy r cursor P size j → i ≡ j
-  by_rule_once Bland cursor i j p q x y = let a = x j q in let b = y i p in omega (arith, a, b)
-  by_rule_once First cursor i j p q (inl x) (inl y) = let a = x.1 j q y.0 in let b = y.1 i p x.0 in omega (arith, a, b)
-  by_rule_once First cursor i j p q (inl x) (inr y) = let a = x.0 in let b = y.0 i p in absurd (omega (arith, a, b))
-  by_rule_once First cursor i j p q (inr x) (inl y) = let a = y.0 in let b = x.0 j q in absurd (omega (arith, a, b))
-  by_rule_once First cursor i j p q (inr x) (inr y) = let a = x.1 j q in let b = y.1 i p in omega (arith, a, b)
-  by_rule_once Best cursor i j p q (a, x, f) (b, y, g) = greater a b j i (f j b q y) (g i a p x)
+use Rattle.nf_engine.specs.Steps.{Picks, MovesTo, StepsBy, HasEnded}
 
 -- ---- names
 -- Two names of one column are one.
@@ -101,16 +86,16 @@ module _ (p : LinearProgram) (ok : IsProblem p) (s : Standing) (f : IsFeasibleSt
   direction_once c false true x y = absurd (turned c y x)
   direction_once c false false x y = refl
 
-  module _ (rule : RuleName) (cursor : ℕ) where
+  module _ (rule : RuleName) (at : PricingState) where
     -- The rule picks one column,
-    pick_once : (c d : Col) → IsPresent p s c → IsPresent p s d → Picks p rule s cursor c → Picks p rule s cursor d → c ≡ d
+    pick_once : (c d : Col) → IsPresent p s c → IsPresent p s d → Picks p rule s at c → Picks p rule s at d → c ≡ d
     pick_once c d h k (n, x) (m, y) =
-        let z = picked_any p s basis m n (rule_of rule) cursor (number p d) y in
+        let z = picked_any p s basis m n (rule_of rule) at (number p d) y in
         column_once c d h k
-        (by_rule_once (IsEligibleBy p s n) (HasSize (stage_of p s) (place_at s) (costs_of p PhaseOne) (costs_of p PhaseTwo) n.one n.two) (rule_of rule) cursor (number p c) (number p d) x.eligible z.eligible x.by_rule z.by_rule)
+        (picked_by_unique (rule_of rule) at (IsEligibleBy p s n) (HasSize (stage_of p s) (place_at s) (costs_of p PhaseOne) (costs_of p PhaseTwo) n.one n.two) (number p c) (number p d) x.eligible z.eligible x.by_rule z.by_rule)
 
     -- which is eligible.
-    picked_eligible : (c : Col) → Picks p rule s cursor c → IsEligibleIn p s (col_of c)
+    picked_eligible : (c : Col) → Picks p rule s at c → IsEligibleIn p s (col_of c)
     picked_eligible c h = (h.0, h.1.eligible)
 
   -- ---- a state that has ended otherwise has no eligible column
@@ -128,15 +113,21 @@ module _ (p : LinearProgram) (ok : IsProblem p) (s : Standing) (f : IsFeasibleSt
       of (inr x) = met_and_short n n h.1 x.1
 
 module _ (p : LinearProgram) (ok : IsProblem p) (rule : RuleName) (a : Point) (f : IsFeasibleState p a.standing) where
-  point_once : (b e : Point) → b.standing ≡ e.standing → b.pivots ≡ e.pivots → b.cursor ≡ e.cursor → b ≡ e
-  point_once b e s n k = λ i. record { standing = s i; pivots = n i; cursor = k i }
+  point_once : (b e : Point) → b.standing ≡ e.standing → b.pivots ≡ e.pivots → b.pricing.cursor ≡ e.pricing.cursor → b.pricing.queue ≡ e.pricing.queue → b ≡ e
+  point_once b e s n k q = λ i. record { standing = s i; pivots = n i; pricing = record { cursor = k i; queue = q i } }
 
   -- Two steps from a point are one.
   pub step_once : (c d : Col) (b e : Point) → StepsBy p rule a c b → StepsBy p rule a d e → (c ≡ d) × (b ≡ e)
-  step_once c d b e s t = (same, point_once b e state (s.counted ∙ sym t.counted) (s.noted ∙ (ap (λ k. suc (number p k)) same ∙ sym t.noted)))
+  step_once c d b e x y = (same, point_once b e state (x.counted ∙ sym y.counted) (x.noted ∙ (ap (λ k. suc (number p k)) same ∙ sym y.noted)) queue)
     where
+      s : MovesTo p rule a.standing a.pricing c b.standing
+      s = x.moves
+
+      t : MovesTo p rule a.standing a.pricing d e.standing
+      t = y.moves
+
       same : c ≡ d
-      same = pick_once p ok a.standing f rule a.cursor c d s.present t.present s.picked t.picked
+      same = pick_once p ok a.standing f rule a.pricing c d s.present t.present s.picked t.picked
 
       turn : s.down ≡ t.down
       turn = direction_once p ok a.standing f (col_of d) s.down t.down (subst (λ k. WouldLower p a.standing (col_of k) s.down) same s.lowers) t.lowers
@@ -144,28 +135,31 @@ module _ (p : LinearProgram) (ok : IsProblem p) (rule : RuleName) (a : Point) (f
       state : b.standing ≡ e.standing
       state = next_is_unique p a.standing b.standing e.standing (col_of d) t.down f t.lowers.enters (subst₂ (λ k z. IsNextOf p a.standing (col_of k) z b.standing) same turn s.next) t.next
 
+      queue : b.pricing.queue ≡ e.pricing.queue
+      queue = next_queue_once p a.standing f.feasible.basis x.queued.0 y.queued.0 (rule_of rule) a.pricing b.pricing.queue e.pricing.queue x.queued.1 y.queued.1
+
   -- Where there is a step, the state has not ended.
-  pub step_no_end : (c : Col) (b : Point) → StepsBy p rule a c b → (m : Moved) → HasEnded p rule a.standing a.cursor m → ⊥
-  step_no_end c b s moved.Best h = none_eligible p ok a.standing f (col_of c) h (picked_eligible p ok a.standing f rule a.cursor c s.picked)
-  step_no_end c b s moved.NoFlow h = none_wanted p ok a.standing f (col_of c) h (picked_eligible p ok a.standing f rule a.cursor c s.picked)
+  pub step_no_end : (c : Col) (t : Standing) → MovesTo p rule a.standing a.pricing c t → (m : Moved) → HasEnded p rule a.standing a.pricing m → ⊥
+  step_no_end c b s moved.Best h = none_eligible p ok a.standing f (col_of c) h (picked_eligible p ok a.standing f rule a.pricing c s.picked)
+  step_no_end c b s moved.NoFlow h = none_wanted p ok a.standing f (col_of c) h (picked_eligible p ok a.standing f rule a.pricing c s.picked)
   step_no_end c b s (moved.Pivoted x y) h = h
   step_no_end c b s (moved.Flipped x) h = h
   step_no_end c b s (moved.NoBound d) (there, picked, (down, (n, h))) =
-      let same : c ≡ d = pick_once p ok a.standing f rule a.cursor c d s.present there s.picked picked in
+      let same : c ≡ d = pick_once p ok a.standing f rule a.pricing c d s.present there s.picked picked in
       let turn : s.down ≡ down = direction_once p ok a.standing f (col_of d) s.down down (subst (λ k. WouldLower p a.standing (col_of k) s.down) same s.lowers) (record { prices = n; enters = h.enters; improves = h.improves }) in
-      h.stuck (place_at b.standing) (subst₂ (λ k z. IsNextOf p a.standing (col_of k) z b.standing) same turn s.next).next
+      h.stuck (place_at b) (subst₂ (λ k z. IsNextOf p a.standing (col_of k) z b) same turn s.next).next
 
   -- It has ended in one way.
-  pub end_once : (x y : Moved) → HasEnded p rule a.standing a.cursor x → HasEnded p rule a.standing a.cursor y → x ≡ y
+  pub end_once : (x y : Moved) → HasEnded p rule a.standing a.pricing x → HasEnded p rule a.standing a.pricing y → x ≡ y
   end_once moved.Best moved.Best x y = refl
   end_once moved.Best moved.NoFlow (n, x) (m, y) = absurd (met_and_short p ok a.standing f m n y.1 x.1)
-  end_once moved.Best (moved.NoBound d) x y = absurd (none_eligible p ok a.standing f (col_of d) x (picked_eligible p ok a.standing f rule a.cursor d y.1))
+  end_once moved.Best (moved.NoBound d) x y = absurd (none_eligible p ok a.standing f (col_of d) x (picked_eligible p ok a.standing f rule a.pricing d y.1))
   end_once moved.NoFlow moved.Best (n, x) (m, y) = absurd (met_and_short p ok a.standing f n m x.1 y.1)
   end_once moved.NoFlow moved.NoFlow x y = refl
-  end_once moved.NoFlow (moved.NoBound d) x y = absurd (none_wanted p ok a.standing f (col_of d) x (picked_eligible p ok a.standing f rule a.cursor d y.1))
-  end_once (moved.NoBound c) moved.Best x y = absurd (none_eligible p ok a.standing f (col_of c) y (picked_eligible p ok a.standing f rule a.cursor c x.1))
-  end_once (moved.NoBound c) moved.NoFlow x y = absurd (none_wanted p ok a.standing f (col_of c) y (picked_eligible p ok a.standing f rule a.cursor c x.1))
-  end_once (moved.NoBound c) (moved.NoBound d) x y = ap moved.NoBound (pick_once p ok a.standing f rule a.cursor c d x.0 y.0 x.1 y.1)
+  end_once moved.NoFlow (moved.NoBound d) x y = absurd (none_wanted p ok a.standing f (col_of d) x (picked_eligible p ok a.standing f rule a.pricing d y.1))
+  end_once (moved.NoBound c) moved.Best x y = absurd (none_eligible p ok a.standing f (col_of c) y (picked_eligible p ok a.standing f rule a.pricing c x.1))
+  end_once (moved.NoBound c) moved.NoFlow x y = absurd (none_wanted p ok a.standing f (col_of c) y (picked_eligible p ok a.standing f rule a.pricing c x.1))
+  end_once (moved.NoBound c) (moved.NoBound d) x y = ap moved.NoBound (pick_once p ok a.standing f rule a.pricing c d x.0 y.0 x.1 y.1)
   end_once (moved.Pivoted i j) y h k = absurd h
   end_once (moved.Flipped i) y h k = absurd h
   end_once moved.Best (moved.Pivoted i j) h k = absurd k

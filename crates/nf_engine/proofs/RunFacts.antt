@@ -1,5 +1,5 @@
 -- Runs from their turns.
-use Rattle.std.proofs.Common.{◌≡◌, ℕ, List, suc, ◌-◌, ◌<◌, ◌≤◌, Bool, true, false, Option, Some, None, refl, ◌∙◌, subst, arith}
+use Rattle.std.proofs.Common.{◌≡◌, ℕ, List, ◌-◌, ◌<◌, ◌≤◌, Bool, true, false, Option, Some, None, refl, ◌∙◌, subst, arith}
 use Rattle.nf_num.specs.Rational.{zero_ℚ, ◌<ℚ◌}
 use Rattle.nf_num.proofs.Order.{lt_irrefl}
 use Rattle.nf_model.specs.Program.{LinearProgram}
@@ -10,7 +10,6 @@ use Rattle.nf_simplex.specs.Standing.{Standing, IsBasisOf, IsFeasibleState}
 use Rattle.nf_simplex.proofs.Prices.{artificial_sum_any}
 use Rattle.nf_basis.specs.declared.col.Col.{Col}
 use Rattle.nf_basis.specs.Arising.{StateTerms}
-use Rattle.nf_basis.specs.Kept.{number}
 use Rattle.nf_basis.specs.Names.{col_of, place_of}
 use Rattle.nf_basis.specs.Numbers.{in_slot}
 use Rattle.nf_price.specs.declared.rule.Rule.{Rule}
@@ -22,7 +21,7 @@ use Rattle.nf_engine.specs.Point.{Point}
 use Rattle.nf_engine.specs.declared.turn.Change.{Change}
 use Rattle.nf_engine.specs.declared.turn.Change.TheVariants.{Pivot, Flip}
 use Rattle.nf_engine.specs.Steps.{IsChange, StepsBy}
-use Rattle.nf_engine.proofs.StepFacts.{step_to}
+use Rattle.nf_engine.proofs.StepFacts.{moves_to}
 use Rattle.nf_engine.specs.Run.{IsShort, IsMet, IsFeasibleDue, GoesOnTo, GoesOn, Halts, Comes, PassesAt, IsTurnTo, IsHaltDue}
 use Rattle.nf_engine.specs.Run.GoesOn.{here as on_here, further as on_further}
 use Rattle.nf_engine.specs.Run.Halts.{limit as halts_limit, pause as halts_pause, feasible as halts_feasible}
@@ -53,13 +52,11 @@ module _ (p : LinearProgram) (rule : Rule) (most : ℕ) (pauses : Pauses) where
   stepped a b c short (Some (Ended m)) ba bb below step told due = absurd due
 
   -- Behind the limit a step would be due.
-  pub limit_due : (a : Point) → IsFeasibleState p a.standing → (slots : List Col) (change : Change) → IsChange p rule a.standing a.cursor slots change → most ≤ a.pivots → Halts p rule most pauses a Limit a
+  pub limit_due : (a : Point) → IsFeasibleState p a.standing → (slots : List Col) (change : Change) → IsChange p rule a.standing a.pricing slots change → most ≤ a.pivots → Halts p rule most pauses a Limit a
   limit_due a f slots (Pivot c slot to) due h =
-      let b : Point = record { standing = exchanged p a.standing (col_of c) (col_of (in_slot slots slot)) (place_of to); pivots = suc a.pivots; cursor = suc (number p c) } in
-      halts_limit c b (step_to p rule a f c b refl refl due.0 due.1 due.2.next) h
+      let t : Standing = exchanged p a.standing (col_of c) (col_of (in_slot slots slot)) (place_of to) in halts_limit c t (moves_to p rule a.standing f a.pricing c t due.0 due.1 due.2.next) h
   limit_due a f slots (Flip c) due h =
-      let b : Point = record { standing = flipped p a.standing (col_of c); pivots = suc a.pivots; cursor = suc (number p c) } in
-      halts_limit c b (step_to p rule a f c b refl refl due.0 due.1 due.2.next) h
+      let t : Standing = flipped p a.standing (col_of c) in halts_limit c t (moves_to p rule a.standing f a.pricing c t due.0 due.1 due.2.next) h
 
   joined : (a m b : Point) → GoesOn p rule most pauses a m → GoesOn p rule most pauses m b → GoesOn p rule most pauses a b
   joined a m b x on_here = x

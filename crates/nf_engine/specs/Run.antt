@@ -16,7 +16,7 @@ use Rattle.nf_engine.specs.declared.halt.Halt.{Halt}
 use Rattle.nf_engine.specs.declared.halt.Halt.TheVariants.{Ended, Limit, Pause, Feasible}
 use Rattle.nf_engine.specs.declared.halt.Pauses.{Pauses}
 use Rattle.nf_engine.specs.Point.{Point}
-use Rattle.nf_engine.specs.Steps.{StepsBy, HasEnded}
+use Rattle.nf_engine.specs.Steps.{MovesTo, StepsBy, HasEnded}
 
 -- A pause is due at so many pivots.
 abbrev pub IsPauseDue : Pauses → ℕ → Type 0
@@ -49,8 +49,8 @@ pub data GoesOn (p : LinearProgram) (rule : Rule) (most : ℕ) (pauses : Pauses)
 
 -- What ends a run that has come to a: this halt is due at a, or behind the step from a to b.
 pub data Halts (p : LinearProgram) (rule : Rule) (most : ℕ) (pauses : Pauses) (a : Point) : Halt → Point → Type 0 where
-  ended : (m : Moved) → HasEnded p rule a.standing a.cursor m → Halts p rule most pauses a (Ended m) a
-  limit : (c : Col) (b : Point) → StepsBy p rule a c b → most ≤ a.pivots → Halts p rule most pauses a Limit a
+  ended : (m : Moved) → HasEnded p rule a.standing a.pricing m → Halts p rule most pauses a (Ended m) a
+  limit : (c : Col) (t : Standing) → MovesTo p rule a.standing a.pricing c t → most ≤ a.pivots → Halts p rule most pauses a Limit a
   pause : (c : Col) (b : Point) → a.pivots < most → StepsBy p rule a c b → IsPauseDue pauses b.pivots → Halts p rule most pauses a Pause b
   feasible : (c : Col) (b : Point) → a.pivots < most → StepsBy p rule a c b → (IsPauseDue pauses b.pivots → ⊥) → IsFeasibleDue p pauses a b → Halts p rule most pauses a Feasible b
 

@@ -1,14 +1,17 @@
 //! The engine.
-ghost use Rattle.std.specs.Prelude.{◌≡◌, ℕ, suc, ◌+◌, ◌*◌, ◌^◌, ◌<◌, ◌≤◌, IfOk, IfErr};
+ghost use Rattle.std.specs.Prelude.{◌≡◌, ℕ, suc, true, false, [], ◌+◌, ◌*◌, ◌^◌, ◌<◌, ◌≤◌, IfOk, IfErr};
 ghost use Rattle.nf_sums.specs.Terms.{PassesIn};
+ghost use Rattle.nf_simplex.specs.Queue.{PricingState};
 ghost use Rattle.nf_simplex.specs.Size.{size};
 ghost use Rattle.nf_simplex.specs.Standing.{IsFeasibleState, Standing, rows_of};
 ghost use Rattle.nf_basis.specs.Arising.{StateTerms};
 ghost use Rattle.nf_basis.specs.Kept.{IsPresent, number};
 ghost use Rattle.nf_engine.specs.Point.{point};
+ghost use Rattle.nf_price.specs.Queue.{pricing};
+ghost use Rattle.nf_price.specs.Rules.{HasSize};
 ghost use Rattle.nf_price.specs.declared.rule.Rule.{Rule as RuleName};
 ghost use Rattle.nf_engine.specs.Run.{IsHaltDue, IsTurnTo, PassesAt, RunsTo};
-ghost use Rattle.nf_engine.specs.Steps.{IsChange, IsMade, IsStep, IsTestedBy};
+ghost use Rattle.nf_engine.specs.Steps.{IsDue, IsMade, IsStep, IsTestedBy};
 
 use crate::artificials::{is_short, rows_in};
 use crate::halt::{Halt, Moved, Pauses};
@@ -16,14 +19,14 @@ use crate::room::Room;
 use crate::turn::{Change, Turn, look, number_of};
 use nf_basis::{Basis, Col};
 use nf_frac::{Passed, Steps};
-use nf_price::Rule;
+use nf_price::{Queue, Rule};
 use nf_prob::Problem;
 use std::alloc::{AllocError, Global};
 use std::marker::Model;
 use std::sync::ledger::Ledger;
 
 /// The simplex method in one stage of a problem: a basis whose state is lexicographically feasible, how many pivots the
-/// stage has had, the number of the column that was picked last (the cursor), and room to work in.
+/// stage has had, the number of the column that was picked last (the cursor), the candidate queue, and room to work in.
 ///
 /// In every call `p` is the problem that the engine was made for. After a `Passed` only `pivots` is called again. Only
 /// `new` takes memory.
@@ -33,6 +36,7 @@ pub struct Engine<B: Basis> {
     room: Room,
     pivots: u64,
     cursor: u32,
+    queue: Queue,
 }
 
 impl<B: Basis> Model for Engine<B> {
@@ -40,11 +44,12 @@ impl<B: Basis> Model for Engine<B> {
 
     ghost Value = { Kept B };
 
-    ghost view = { λ e. record { basis = e.basis; pivots = e.pivots; cursor = e.cursor; room = e.room } };
+    ghost view = { λ e. record { basis = e.basis; pivots = e.pivots; pricing = record { cursor = e.cursor; queue = e.queue }; room = e.room } };
 }
 
 impl<B: Basis> Engine<B> {
-    /// An engine for a basis whose state is lexicographically feasible, with so many pivots and this cursor.
+    /// An engine for a basis whose state is lexicographically feasible, with so many pivots, this cursor and
+    /// this queue.
     /// `AllocError` where there is no memory for its work lists.
     pub fn new(
         alloc: Global,
@@ -52,10 +57,11 @@ impl<B: Basis> Engine<B> {
         basis: B,
         pivots: u64,
         cursor: u32,
+        queue: Queue,
     ) -> Result<Engine<B>, AllocError>
         requires numbers { B.HasNumbers p.now basis }
         requires feasible { IsFeasibleState p.now (B.standing basis) }
-        ensures { IfOk result (λ e. e ≡ record { basis = basis; pivots = pivots; cursor = cursor; room = rows_of p.now (B.standing basis) }) }
+        ensures { IfOk result (λ e. e ≡ record { basis = basis; pivots = pivots; pricing = pricing cursor queue; room = rows_of p.now (B.standing basis) }) }
     {
         let rows = rows_in(p, basis.state());
         Ok(Engine {
@@ -63,6 +69,7 @@ impl<B: Basis> Engine<B> {
             room: Room::new(alloc, rows)?,
             pivots,
             cursor,
+            queue,
         })
     }
 
@@ -77,9 +84,23 @@ impl<B: Basis> Engine<B> {
     /// The number of the column that was picked last, and 0 where none was: given columns by number, then the slack of
     /// row i as number `columns + i - nodes`.
     pub fn cursor(&self) -> u32
-        ensures { result ≡ self.now.cursor }
+        ensures { result ≡ self.now.pricing.cursor }
     {
         self.cursor
+    }
+
+    /// The candidate queue.
+    pub fn queue(&self) -> &Queue
+        ensures { result.now ≡ self.now.pricing.queue }
+    {
+        &self.queue
+    }
+
+    /// Removes all numbers from the queue. Nothing else changes, and it takes no memory.
+    pub fn empty_queue(&mut self)
+        ensures { self.new ≡ record { basis = self.old.basis; pivots = self.old.pivots; pricing = pricing self.old.pricing.cursor []; room = self.old.room } }
+    {
+        self.queue.clear();
     }
 
     /// The basis.
@@ -96,9 +117,18 @@ impl<B: Basis> Engine<B> {
         self.basis
     }
 
+    /// The basis and the queue.
+    pub fn into_parts(self) -> (B, Queue)
+        ensures basis { result.0 ≡ self.basis }
+        ensures queue { result.1 ≡ self.pricing.queue }
+    {
+        (self.basis, self.queue)
+    }
+
     /// One step: the rule picks an eligible column, the ratio test says what limits its move, and a pivot or a flip gives
     /// the next state, which is the only one. It makes the objective vector lexicographically less and keeps the state
-    /// lexicographically feasible; the count rises by one, and the cursor becomes the picked column's number. `Best`,
+    /// lexicographically feasible; the count rises by one, the cursor becomes the picked column's number, and the
+    /// queue the next one. `Best`,
     /// `NoFlow` and `NoBound` come exactly where the state has ended so, and then nothing changes.
     ///
     /// `Passed` only where an operation that arises from the state passes 128 bits. With t inverse columns that the
@@ -114,15 +144,25 @@ impl<B: Basis> Engine<B> {
         requires feasible { IsFeasibleState p.now (B.standing self.old.basis) }
         requires room { self.old.room ≡ rows_of p.now (B.standing self.old.basis) }
         requires count { self.old.pivots < 2 ^ 63 }
+        requires size { HasSize rule }
         ensures numbers { IfOk result (λ _. B.HasNumbers p.now self.new.basis) }
         ensures feasible { IfOk result (λ _. IsFeasibleState p.now (B.standing self.new.basis)) }
         ensures room { IfOk result (λ _. self.new.room ≡ rows_of p.now (B.standing self.new.basis)) }
         ensures step { IfOk result (λ m. IsStep p.now rule (point B.standing self.old) m (point B.standing self.new)) }
         ensures count { IfErr result (λ _. self.new.pivots ≡ self.old.pivots) }
         ensures passed { IfErr result (PassesIn (StateTerms p.now (B.standing self.old.basis))) }
-        ensures cost { (t : ℕ) → IsTestedBy p.now rule (B.standing self.old.basis) self.old.cursor t → steps.new ≤ steps.old + 8 * (1 + t) * (B.unit p.now (B.standing self.old.basis).stage + 6 * size p.now (B.standing self.old.basis).stage) }
+        ensures cost { (t : ℕ) → IsTestedBy p.now rule (B.standing self.old.basis) self.old.pricing t → steps.new ≤ steps.old + 8 * (1 + t) * (B.unit p.now (B.standing self.old.basis).stage + 6 * size p.now (B.standing self.old.basis).stage) }
     {
-        let due = look(p, &mut self.basis, rule, self.cursor, &mut self.room, steps)?;
+        let due = look(
+            p,
+            &mut self.basis,
+            rule,
+            self.cursor,
+            &mut self.queue,
+            true,
+            &mut self.room,
+            steps,
+        )?;
         match due.turn {
             Turn::Ended(ended) => Ok(ended),
             Turn::Changes(change) => {
@@ -150,6 +190,7 @@ impl<B: Basis> Engine<B> {
         requires feasible { IsFeasibleState p.now (B.standing self.old.basis) }
         requires room { self.old.room ≡ rows_of p.now (B.standing self.old.basis) }
         requires most { most ≤ 2 ^ 63 }
+        requires size { HasSize rule }
         ensures numbers { IfOk result (λ _. B.HasNumbers p.now self.new.basis) }
         ensures feasible { IfOk result (λ _. IsFeasibleState p.now (B.standing self.new.basis)) }
         ensures room { IfOk result (λ _. self.new.room ≡ rows_of p.now (B.standing self.new.basis)) }
@@ -176,17 +217,28 @@ impl<B: Basis> Engine<B> {
         requires feasible { IsFeasibleState p.now (B.standing self.old.basis) }
         requires room { self.old.room ≡ rows_of p.now (B.standing self.old.basis) }
         requires most { most ≤ 2 ^ 63 }
+        requires size { HasSize rule }
         ensures numbers { IfOk result (λ _. B.HasNumbers p.now self.new.basis) }
         ensures feasible { IfOk result (λ _. IsFeasibleState p.now (B.standing self.new.basis)) }
         ensures room { IfOk result (λ _. self.new.room ≡ rows_of p.now (B.standing self.new.basis)) }
         ensures turn { IfOk result (λ h. IsTurnTo p.now rule most pauses.now (point B.standing self.old) h (point B.standing self.new)) }
         ensures passed { IfErr result (PassesAt p.now rule most pauses.now (point B.standing self.old) self.new.pivots) }
     {
-        let due = look(p, &mut self.basis, rule, self.cursor, &mut self.room, steps)?;
+        let moves = may_move(self.pivots, most);
+        let due = look(
+            p,
+            &mut self.basis,
+            rule,
+            self.cursor,
+            &mut self.queue,
+            moves,
+            &mut self.room,
+            steps,
+        )?;
         match due.turn {
             Turn::Ended(ended) => Ok(Some(Halt::Ended(ended))),
             Turn::Changes(change) => {
-                if self.pivots >= most {
+                if !moves {
                     return Ok(Some(Halt::Limit));
                 }
                 self.make(p, change, steps)?;
@@ -196,7 +248,7 @@ impl<B: Basis> Engine<B> {
         }
     }
 
-    // Makes the change that is due, and counts it.
+    // Makes the change that is due, and counts it. The queue is the next one already.
     fn make<L: Ledger>(
         &mut self,
         p: &Problem,
@@ -207,11 +259,11 @@ impl<B: Basis> Engine<B> {
         requires feasible { IsFeasibleState p.now (B.standing self.old.basis) }
         requires room { self.old.room ≡ rows_of p.now (B.standing self.old.basis) }
         requires count { self.old.pivots < 2 ^ 63 }
-        requires due { (rule : RuleName) × IsChange p.now rule (B.standing self.old.basis) self.old.cursor (B.slots self.old.basis) change }
+        requires due { (rule : RuleName) × ((at : PricingState) × IsDue p.now rule (B.standing self.old.basis) at (B.slots self.old.basis) change self.old.pricing) }
         ensures numbers { IfOk result (λ _. B.HasNumbers p.now self.new.basis) }
         ensures feasible { IfOk result (λ _. IsFeasibleState p.now (B.standing self.new.basis)) }
         ensures room { IfOk result (λ _. self.new.room ≡ rows_of p.now (B.standing self.new.basis)) }
-        ensures made { IfOk result (λ m. (rule : RuleName) → IsChange p.now rule (B.standing self.old.basis) self.old.cursor (B.slots self.old.basis) change → IsMade p.now rule (point B.standing self.old) m (point B.standing self.new)) }
+        ensures made { IfOk result (λ m. (rule : RuleName) (at : PricingState) → IsDue p.now rule (B.standing self.old.basis) at (B.slots self.old.basis) change self.old.pricing → IsMade p.now rule (record { standing = B.standing self.old.basis; pivots = self.old.pivots; pricing = at }) m (point B.standing self.new)) }
         ensures count { IfErr result (λ _. self.new.pivots ≡ self.old.pivots) }
         ensures passed { IfErr result (PassesIn (StateTerms p.now (B.standing self.old.basis))) }
         ensures cost { steps.new ≤ steps.old + 4 * B.unit p.now (B.standing self.old.basis).stage }
@@ -235,11 +287,19 @@ impl<B: Basis> Engine<B> {
     fn note(&mut self, p: &Problem, column: Col)
         requires present { (s : Standing) × IsPresent p.now s column }
         requires count { self.old.pivots < 2 ^ 63 }
-        ensures { self.new ≡ record { basis = self.old.basis; pivots = suc self.old.pivots; cursor = suc (number p.now column); room = self.old.room } }
+        ensures { self.new ≡ record { basis = self.old.basis; pivots = suc self.old.pivots; pricing = pricing (suc (number p.now column)) self.old.pricing.queue; room = self.old.room } }
     {
         self.pivots += 1;
         self.cursor = number_of(p, column);
     }
+}
+
+// Whether a stage that has had so many pivots may have another one.
+fn may_move(pivots: u64, most: u64) -> bool
+    ensures yes { result ≡ true → pivots < most }
+    ensures no { result ≡ false → most ≤ pivots }
+{
+    pivots < most
 }
 
 // The halt that is due behind a step, where `short` says whether the artificials summed to more than 0 before it.
