@@ -4,6 +4,7 @@ use Rattle.std.proofs.Common.{◌≡◌, ℕ, Option, Some, None, refl, sym, ◌
 use Rattle.nf_num.specs.Rational.{ℚ}
 use Rattle.nf_model.specs.Program.{LinearProgram}
 use Rattle.nf_frac.specs.declared.passed.Passed.{Passed}
+use Rattle.nf_simplex.specs.Queue.{PricingState}
 use Rattle.nf_simplex.specs.Standing.{Standing}
 use Rattle.nf_price.specs.declared.rule.Rule.{Rule}
 use Rattle.nf_engine.specs.declared.halt.Halt.{Halt}
@@ -45,7 +46,7 @@ runs_come p w a b halt r = halts_come p w.rule w.most w.pauses a r.before b halt
 
 -- ---- the halt
 halts_in : (p : LinearProgram) (w : Setting) (m b : Point) (halt : Halt) → Halts p w.rule w.most w.pauses m halt b → IsHaltIn p w b.standing halt
-halts_in p w m b halt (Halts.ended moved ended) = (m.cursor, ended)
+halts_in p w m b halt (Halts.ended moved ended) = (m.pricing, ended)
 halts_in p w m b halt (Halts.limit c n step full) = tt
 halts_in p w m b halt (Halts.pause c n below step due) = tt
 halts_in p w m b halt (Halts.feasible c n below step none due) = tt
@@ -54,12 +55,12 @@ pub halt_in : (p : LinearProgram) (w : Setting) (a b : Point) (halt : Halt) → 
 halt_in p w a b halt r = halts_in p w r.before b halt r.last
 
 -- ---- how a state has ended
-pub ended_means : (p : LinearProgram) (rule : Rule) (s : Standing) (cursor : ℕ) (m : Moved) → HasEnded p rule s cursor m → (how : End) × MeansEnd m how
-ended_means p rule s cursor Best h = (end.Best, tt)
-ended_means p rule s cursor NoFlow h = (end.NoFlow, tt)
-ended_means p rule s cursor (NoBound c) h = (end.NoBound c, refl)
-ended_means p rule s cursor (Pivoted entering leaving) h = absurd h
-ended_means p rule s cursor (Flipped c) h = absurd h
+pub ended_means : (p : LinearProgram) (rule : Rule) (s : Standing) (at : PricingState) (m : Moved) → HasEnded p rule s at m → (how : End) × MeansEnd m how
+ended_means p rule s at Best h = (end.Best, tt)
+ended_means p rule s at NoFlow h = (end.NoFlow, tt)
+ended_means p rule s at (NoBound c) h = (end.NoBound c, refl)
+ended_means p rule s at (Pivoted entering leaving) h = absurd h
+ended_means p rule s at (Flipped c) h = absurd h
 
 last_best : (p : LinearProgram) (n : StageNumber) → (IsOver p n (Ended Best) → ⊥) → IsLast (layout_of p) n
 last_best p StageOne none = none
@@ -69,18 +70,18 @@ last_no_bound : (p : LinearProgram) (n : StageNumber) (c : Col) → (IsOver p n 
 last_no_bound p StageOne c none = none
 last_no_bound p StageTwo c none = tt
 
-pub ended_so : (p : LinearProgram) (rule : Rule) (s : Standing) (cursor : ℕ) (m : Moved) (how : End) → (IsOver p s.stage (Ended m) → ⊥) → HasEnded p rule s cursor m → MeansEnd m how → HasEndedSo p s how
-ended_so p rule s cursor Best end.Best last h e = (h, last_best p s.stage last)
-ended_so p rule s cursor Best end.NoFlow last h e = absurd e
-ended_so p rule s cursor Best (end.NoBound d) last h e = absurd e
-ended_so p rule s cursor NoFlow end.Best last h e = absurd e
-ended_so p rule s cursor NoFlow end.NoFlow last h e = h
-ended_so p rule s cursor NoFlow (end.NoBound d) last h e = absurd e
-ended_so p rule s cursor (NoBound c) end.Best last h e = absurd e
-ended_so p rule s cursor (NoBound c) end.NoFlow last h e = absurd e
-ended_so p rule s cursor (NoBound c) (end.NoBound d) last h e = subst (λ k. HasEndedSo p s (end.NoBound k)) (sym e) (h.0, h.2, last_no_bound p s.stage c last)
-ended_so p rule s cursor (Pivoted entering leaving) how last h e = absurd h
-ended_so p rule s cursor (Flipped c) how last h e = absurd h
+pub ended_so : (p : LinearProgram) (rule : Rule) (s : Standing) (at : PricingState) (m : Moved) (how : End) → (IsOver p s.stage (Ended m) → ⊥) → HasEnded p rule s at m → MeansEnd m how → HasEndedSo p s how
+ended_so p rule s at Best end.Best last h e = (h, last_best p s.stage last)
+ended_so p rule s at Best end.NoFlow last h e = absurd e
+ended_so p rule s at Best (end.NoBound d) last h e = absurd e
+ended_so p rule s at NoFlow end.Best last h e = absurd e
+ended_so p rule s at NoFlow end.NoFlow last h e = h
+ended_so p rule s at NoFlow (end.NoBound d) last h e = absurd e
+ended_so p rule s at (NoBound c) end.Best last h e = absurd e
+ended_so p rule s at (NoBound c) end.NoFlow last h e = absurd e
+ended_so p rule s at (NoBound c) (end.NoBound d) last h e = subst (λ k. HasEndedSo p s (end.NoBound k)) (sym e) (h.0, h.2, last_no_bound p s.stage c last)
+ended_so p rule s at (Pivoted entering leaving) how last h e = absurd h
+ended_so p rule s at (Flipped c) how last h e = absurd h
 
 -- ---- its line
 best_line : (p : LinearProgram) (s : Standing) (c : Cert) (told : HaltLine) (P : HaltLine → Type 0) → IsVerdict p s end.Best c told → ((f : ℚ) → HasVerdict p s end.Best (line.Optimal f) → P (line.Optimal f)) → P told
@@ -113,7 +114,7 @@ no_bound_line p s k (cert.Ray flows ray) line.Feasible P v h = absurd v.proves
 no_bound_line p s k (cert.Best flows duals) told P v h = absurd v.certificate
 no_bound_line p s k (cert.Farkas duals) told P v h = absurd v.certificate
 
-ended_says : (p : LinearProgram) (w : Setting) (b : Point) (m : Moved) (how : End) (c : Cert) (told : HaltLine) → HasEnded p w.rule b.standing b.cursor m → MeansEnd m how → IsVerdict p b.standing how c told
+ended_says : (p : LinearProgram) (w : Setting) (b : Point) (m : Moved) (how : End) (c : Cert) (told : HaltLine) → HasEnded p w.rule b.standing b.pricing m → MeansEnd m how → IsVerdict p b.standing how c told
     → Says p w b told
 ended_says p w b Best end.Best c told h e v = best_line p b.standing c told (Says p w b) v (λ f k. k)
 ended_says p w b Best end.NoFlow c told h e v = absurd e
@@ -124,7 +125,7 @@ ended_says p w b NoFlow (end.NoBound d) c told h e v = absurd e
 ended_says p w b (NoBound x) end.Best c told h e v = absurd e
 ended_says p w b (NoBound x) end.NoFlow c told h e v = absurd e
 ended_says p w b (NoBound x) (end.NoBound d) c told h e v =
-    let picked = subst (λ (k : Col). Picks p w.rule b.standing b.cursor k) (sym e) h.1 in
+    let picked = subst (λ (k : Col). Picks p w.rule b.standing b.pricing k) (sym e) h.1 in
     no_bound_line p b.standing d c told (Says p w b) v (λ f k. (d, picked, k))
 ended_says p w b (Pivoted entering leaving) how c told h e v = absurd h
 ended_says p w b (Flipped x) how c told h e v = absurd h
@@ -149,7 +150,7 @@ proof_of p w s Limit told (Some c) h = absurd h
 proof_of p w s Pause told (Some c) h = absurd h
 proof_of p w s Feasible told (Some c) h = absurd h
 
-moved_says : (p : LinearProgram) (w : Setting) (b : Point) (m : Moved) (told : HaltLine) (proof : Option Cert) → HasEnded p w.rule b.standing b.cursor m → Shows p w b.standing (Ended m) told proof → Says p w b told
+moved_says : (p : LinearProgram) (w : Setting) (b : Point) (m : Moved) (told : HaltLine) (proof : Option Cert) → HasEnded p w.rule b.standing b.pricing m → Shows p w b.standing (Ended m) told proof → Says p w b told
 moved_says p w b m told (Some c) ended h = ended_says p w b m h.0 c told ended h.1 h.2
 moved_says p w b m told None ended h = absurd h
 
@@ -165,11 +166,11 @@ says_of p w a b halt told proof r h = halts_say p w r.before b halt told proof r
 -- ---- the stage
 goes_stage : (p : LinearProgram) (rule : Rule) (most : ℕ) (pauses : Pauses) (a b : Point) → GoesOn p rule most pauses a b → b.standing.stage ≡ a.standing.stage
 goes_stage p rule most pauses a b GoesOn.here = refl
-goes_stage p rule most pauses a b (GoesOn.further m n on to) = to.step.next.same_stage ∙ goes_stage p rule most pauses a m on
+goes_stage p rule most pauses a b (GoesOn.further m n on to) = to.step.moves.next.same_stage ∙ goes_stage p rule most pauses a m on
 
 comes_stage : (p : LinearProgram) (rule : Rule) (most : ℕ) (pauses : Pauses) (a b : Point) → Comes p rule most pauses a b → b.standing.stage ≡ a.standing.stage
 comes_stage p rule most pauses a b (Comes.there n on) = goes_stage p rule most pauses a b on
-comes_stage p rule most pauses a b (Comes.behind c m n on below step) = step.next.same_stage ∙ goes_stage p rule most pauses a m on
+comes_stage p rule most pauses a b (Comes.behind c m n on below step) = step.moves.next.same_stage ∙ goes_stage p rule most pauses a m on
 
 pub runs_stage : (p : LinearProgram) (w : Setting) (a b : Point) (halt : Halt) → Runs p w a halt b → b.standing.stage ≡ a.standing.stage
 runs_stage p w a b halt r = comes_stage p w.rule w.most w.pauses a b (runs_come p w a b halt r)
@@ -178,8 +179,8 @@ runs_stage p w a b halt r = comes_stage p w.rule w.most w.pauses a b (runs_come 
 pub runs_of : (p : LinearProgram) (w : Setting) (most : ℕ) (a b c d : Point) (halt : Halt) → RunsTo p w.rule most w.pauses a halt b → most ≡ w.most → a ≡ c → b ≡ d → Runs p w c halt d
 runs_of p w most a b c d halt r up_to from to = subst₂ (λ x y. Runs p w x halt y) from to (subst (λ n. RunsTo p w.rule n w.pauses a halt b) up_to r)
 
-pub point_same : (s t : Standing) (n m k l : ℕ) → s ≡ t → n ≡ m → k ≡ l → ◌≡◌ {A = Point} (record { standing = s; pivots = n; cursor = k }) (record { standing = t; pivots = m; cursor = l })
-point_same s t n m k l d e f = λ i. record { standing = d i; pivots = e i; cursor = f i }
+pub point_same : (s t : Standing) (n m : ℕ) (k l : PricingState) → s ≡ t → n ≡ m → k ≡ l → ◌≡◌ {A = Point} (record { standing = s; pivots = n; pricing = k }) (record { standing = t; pivots = m; pricing = l })
+point_same s t n m k l d e f = λ i. record { standing = d i; pivots = e i; pricing = f i }
 
 -- ---- operations that pass
 -- where a step passes
@@ -187,9 +188,9 @@ pub step_passes : (p : LinearProgram) (w : Setting) (a c : Point) (m n : ℕ) (p
 step_passes p w a c m n passed g most h up_to from count is = subst (IsStageFault p w c) (sym is) (refl, subst₂ (λ x k. PassesAt p w.rule w.most w.pauses x k passed) from (sym count) (subst (λ k. PassesAt p w.rule k w.pauses a m passed) up_to h))
 
 -- where a halt is not told
-pub telling_passes : (p : LinearProgram) (w : Setting) (s : Standing) (n k : ℕ) (f : CertOfFault) (g : RunFault) → IsCertFault p s f → g ≡ number_fault w.stage n f → IsTellingFault p w (record { standing = s; pivots = n; cursor = k }) g
-telling_passes p w s n k (certificate.Passed passed) g why is = subst (IsTellingFault p w (record { standing = s; pivots = n; cursor = k })) (sym is) (refl, refl, why)
-telling_passes p w s n k certificate.NoMemory g why is = subst (IsTellingFault p w (record { standing = s; pivots = n; cursor = k })) (sym is) tt
+pub telling_passes : (p : LinearProgram) (w : Setting) (s : Standing) (n : ℕ) (k : PricingState) (f : CertOfFault) (g : RunFault) → IsCertFault p s f → g ≡ number_fault w.stage n f → IsTellingFault p w (record { standing = s; pivots = n; pricing = k }) g
+telling_passes p w s n k (certificate.Passed passed) g why is = subst (IsTellingFault p w (record { standing = s; pivots = n; pricing = k })) (sym is) (refl, refl, why)
+telling_passes p w s n k certificate.NoMemory g why is = subst (IsTellingFault p w (record { standing = s; pivots = n; pricing = k })) (sym is) tt
 
 -- in the numbers of the state to which a run has come
 pub telling_fails : (p : LinearProgram) (w : Setting) (a b : Point) (halt : Halt) (g : RunFault) → Runs p w a halt b → IsTellingFault p w b g → IsStageFault p w a g

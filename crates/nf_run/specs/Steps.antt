@@ -19,6 +19,8 @@ use Rattle.nf_prob.specs.declared.cert.Cert.{Cert}
 use Rattle.nf_program.specs.declared.program.SessionOptions.{SessionOptions}
 use Rattle.nf_program.specs.declared.program.Statement.{Statement}
 use Rattle.nf_program.specs.declared.program.Statement.TheVariants as act
+use Rattle.nf_simplex.specs.Queue.{PricingState}
+use Rattle.nf_price.specs.Queue.{pricing}
 use Rattle.nf_engine.specs.declared.halt.Halt.{Halt}
 use Rattle.nf_engine.specs.declared.halt.Halt.TheVariants.{Ended}
 use Rattle.nf_engine.specs.Point.{Point}
@@ -30,8 +32,8 @@ use Rattle.nf_run.specs.declared.event.RunFault.{RunFault}
 use Rattle.nf_run.specs.declared.event.RunFault.TheVariants as fault
 use Rattle.nf_run.specs.declared.line.HaltLine.{HaltLine}
 use Rattle.nf_run.specs.declared.setting.Setting.{Setting}
-use Rattle.nf_run.specs.declared.session.Place.{Place}
-use Rattle.nf_run.specs.declared.session.Place.TheVariants as place
+use Rattle.nf_run.specs.declared.session.InStage.{InStage}
+use Rattle.nf_run.specs.declared.session.InStage.TheVariants as in_stage
 use Rattle.nf_run.specs.declared.session.Session.{Session}
 use Rattle.nf_run.specs.declared.session.StagePoint.{StagePoint}
 use Rattle.nf_run.specs.Endings.{HasProof}
@@ -42,7 +44,7 @@ use Rattle.nf_run.specs.Verdicts.{IsVerdict, MeansEnd, Tells, TellsVerdict}
 -- ---- where a session stands
 -- The point of a stage, where its basis stands for a state so.
 abbrev pub point_at : {B : Type 0} → (B → Standing) → StagePoint B → Point
-point_at standing s = record { standing = standing s.basis; pivots = s.pivots; cursor = s.cursor }
+point_at standing s = record { standing = standing s.basis; pivots = s.pivots; pricing = pricing s.cursor s.queue }
 
 -- The spot of a point of stage one, and that of a point of stage two with the pivots of stage one.
 abbrev pub spot_one : {B : Type 0} → (B → Standing) → StagePoint B → Spot
@@ -52,9 +54,9 @@ abbrev pub spot_two : StagePoint DenseBasis → ℕ → Spot
 spot_two s earlier = record { point = point_at (λ b. b.state.standing) s; earlier = earlier }
 
 -- The spot at which a session stands.
-abbrev pub spot_at : {B : Type 0} → (B → Standing) → Place B → Spot
-spot_at standing (place.One s) = spot_one standing s
-spot_at standing (place.Two s earlier) = spot_two s earlier
+abbrev pub spot_at : {B : Type 0} → (B → Standing) → InStage B → Spot
+spot_at standing (in_stage.One s) = spot_one standing s
+spot_at standing (in_stage.Two s earlier) = spot_two s earlier
 
 -- A basis has its numbers, and stands for a lexicographically feasible state of a stage.
 pub record IsReadyIn {B : Type 0} (p : LinearProgram) (HasNumbers : LinearProgram → B → Type 0) (standing : B → Standing) (n : StageNumber) (b : B) : Type 0 where
@@ -63,9 +65,9 @@ pub record IsReadyIn {B : Type 0} (p : LinearProgram) (HasNumbers : LinearProgra
   pub stage : (standing b).stage ≡ n
 
 -- The basis of a session is ready, in its stage.
-abbrev pub IsReady : {B : Type 0} → LinearProgram → (LinearProgram → B → Type 0) → (B → Standing) → Place B → Type 0
-IsReady p HasNumbers standing (place.One s) = IsReadyIn p HasNumbers standing StageOne s.basis
-IsReady p HasNumbers standing (place.Two s earlier) = IsReadyIn p HoldsNumbers (λ b. b.state.standing) StageTwo s.basis
+abbrev pub IsReady : {B : Type 0} → LinearProgram → (LinearProgram → B → Type 0) → (B → Standing) → InStage B → Type 0
+IsReady p HasNumbers standing (in_stage.One s) = IsReadyIn p HasNumbers standing StageOne s.basis
+IsReady p HasNumbers standing (in_stage.Two s earlier) = IsReadyIn p HoldsNumbers (λ b. b.state.standing) StageTwo s.basis
 
 -- A session: the spot at which it stands, and the certificate of the last halt, where this was a verdict.
 pub record At : Type 0 where
@@ -73,7 +75,7 @@ pub record At : Type 0 where
   pub proof : Option Cert
 
 abbrev pub session_at : {B : Type 0} → (B → Standing) → Session B → At
-session_at standing s = record { spot = spot_at standing s.place; proof = s.proof }
+session_at standing s = record { spot = spot_at standing s.stage; proof = s.proof }
 
 -- The opening fails for want of memory, or where an operation passes before any pivot.
 abbrev pub IsOpeningFault : LinearProgram → RunFault → Type 0
@@ -97,9 +99,9 @@ abbrev pub starting_fault : StartFault → RunFault
 starting_fault (starting.Passed passed) = fault.Range 2 0 passed
 starting_fault starting.NoMemory = fault.NoMemory
 
--- A state at which an end is told has ended so, by the rule of its stage and some cursor.
+-- A state at which an end is told has ended so, by the rule of its stage, with some cursor and queue.
 abbrev pub IsHaltIn : LinearProgram → Setting → Standing → Halt → Type 0
-IsHaltIn p w s (Ended m) = (cursor : ℕ) × HasEnded p w.rule s cursor m
+IsHaltIn p w s (Ended m) = (at : PricingState) × HasEnded p w.rule s at m
 IsHaltIn p w s _ = Unit {0}
 
 -- The line tells a halt at a state, and a verdict with its proof.

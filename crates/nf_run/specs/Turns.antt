@@ -1,6 +1,6 @@
 -- One RUN, in one stage or over the end of stage one: how a run of a stage ends, when stage two starts, and where it goes.
 -- Each line of a listing is said to be that of such a RUN.
-use Rattle.std.specs.Prelude.{◌≡◌, ◌⊎◌, ℕ}
+use Rattle.std.specs.Prelude.{◌≡◌, ◌⊎◌, ℕ, []}
 use Rattle.nf_num.specs.Rational.{ℚ}
 use Rattle.nf_model.specs.Program.{LinearProgram}
 use Rattle.nf_sums.specs.Terms.{PassesIn}
@@ -11,6 +11,7 @@ use Rattle.nf_simplex.specs.Standing.{Standing, AreValuesOf}
 use Rattle.nf_simplex.specs.Moves.{IsSecondState}
 use Rattle.nf_basis.specs.Arising.{StateTerms}
 use Rattle.nf_program.specs.declared.program.SessionOptions.{SessionOptions}
+use Rattle.nf_price.specs.Queue.{pricing}
 use Rattle.nf_engine.specs.declared.halt.Halt.{Halt}
 use Rattle.nf_engine.specs.declared.halt.Halt.TheVariants.{Ended}
 use Rattle.nf_engine.specs.declared.halt.Moved.TheVariants.{Best, NoBound}
@@ -43,7 +44,7 @@ counts_at b = counts_in b.point.standing.stage b.point.pivots b.earlier
 
 -- The point at which a stage starts from a state.
 abbrev pub started : Standing → Point
-started s = record { standing = s; pivots = 0; cursor = 0 }
+started s = record { standing = s; pivots = 0; pricing = pricing 0 [] }
 
 -- ---- in one stage
 -- A run of a stage, of which the program asks w, from a to b, which this halt ends.
@@ -77,7 +78,7 @@ pub record StartsTwo (p : LinearProgram) (s t : Standing) : Type 0 where
   pub are_values : AreValuesOf p s values
   pub second : IsSecondState p s values t
 
--- A RUN comes to the end of stage one, stage two starts with no pivot and no cursor, and the RUN goes on in it.
+-- A RUN comes to the end of stage one, stage two starts with no pivot, no cursor and an empty queue, and the RUN goes on in it.
 pub record GivesOverEnd (p : LinearProgram) (o : SessionOptions) (a : Spot) (line : HaltLine) (b : Spot) : Type 0 where
   pub ends : EndsStageOne p o a.point
   pub start : Standing

@@ -77,7 +77,7 @@ Says p w b (line.Optimal f) = HasVerdict p b.standing end.Best (line.Optimal f)
 Says p w b (line.Infeasible f) = HasVerdict p b.standing end.NoFlow (line.Infeasible f)
 -- the state has ended unbounded at a column that the rule picks, and by its flows and what they do while this column
 -- moves costs have no least, with this rate
-Says p w b (line.Unbounded f) = (c : Col) × Picks p w.rule b.standing b.cursor c × HasVerdict p b.standing (end.NoBound c) (line.Unbounded f)
+Says p w b (line.Unbounded f) = (c : Col) × Picks p w.rule b.standing b.pricing c × HasVerdict p b.standing (end.NoBound c) (line.Unbounded f)
 -- the stage's count of pivots is at least the limit that the program set
 Says p w b (line.Limit stage most) = (stage ≡ w.stage) × (most ≡ w.most) × (most ≤ b.pivots)
 -- the program set the pause, and it is due

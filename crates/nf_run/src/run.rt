@@ -10,16 +10,17 @@ ghost use Rattle.nf_run.specs.Turns.{Gives, GivesInStage, IsOver, Runs, StartsTw
 
 use crate::event::RunFault;
 use crate::line::HaltLine;
-use crate::session::{Place, Session, StagePoint};
+use crate::session::{InStage, Session, StagePoint};
 use crate::setting::{Setting, setting_one, setting_two};
 use crate::stage::{line_of, run_stage};
 use nf_basis::{Basis, DenseBasis, StartFault};
 use nf_certify::CertOfFault;
 use nf_engine::{Halt, Moved};
 use nf_frac::Steps;
+use nf_price::Queue;
 use nf_prob::{Cert, Problem};
+use nf_program::SessionOptions;
 use nf_stage_two::{start_two, widen};
-use nf_stmt::SessionOptions;
 use std::alloc::Global;
 use std::sync::ledger::Ledger;
 
@@ -35,17 +36,17 @@ pub(crate) fn run<B: Basis, L: Ledger>(
     steps: &mut Steps<L>,
 ) -> Result<(HaltLine, Session<B>), RunFault>
     requires plain { IsPlain p.now }
-    requires ready { IsReady p.now B.HasNumbers B.standing session.place }
-    ensures ready { IfOk result (λ r. IsReady p.now B.HasNumbers B.standing r.1.place) }
-    ensures gives { IfOk result (λ r. Gives p.now options.now (spot_at B.standing session.place) r.0 (spot_at B.standing r.1.place)) }
-    ensures proof { IfOk result (λ r. KeepsProof p.now (spot_at B.standing r.1.place).point.standing r.0 r.1.proof) }
-    ensures says { IfOk result (λ r. SaysAt p.now options.now (spot_at B.standing r.1.place) r.0) }
-    ensures fault { IfErr result (IsRunFault p.now options.now (spot_at B.standing session.place)) }
+    requires ready { IsReady p.now B.HasNumbers B.standing session.stage }
+    ensures ready { IfOk result (λ r. IsReady p.now B.HasNumbers B.standing r.1.stage) }
+    ensures gives { IfOk result (λ r. Gives p.now options.now (spot_at B.standing session.stage) r.0 (spot_at B.standing r.1.stage)) }
+    ensures proof { IfOk result (λ r. KeepsProof p.now (spot_at B.standing r.1.stage).point.standing r.0 r.1.proof) }
+    ensures says { IfOk result (λ r. SaysAt p.now options.now (spot_at B.standing r.1.stage) r.0) }
+    ensures fault { IfErr result (IsRunFault p.now options.now (spot_at B.standing session.stage)) }
 {
-    let Session { place, proof: _ } = session;
-    match place {
-        Place::One(from) => run_one(alloc, p, options, from, steps),
-        Place::Two(from, earlier) => run_two(alloc, p, options, from, earlier, steps),
+    let Session { stage, proof: _ } = session;
+    match stage {
+        InStage::One(from) => run_one(alloc, p, options, from, steps),
+        InStage::Two(from, earlier) => run_two(alloc, p, options, from, earlier, steps),
     }
 }
 
@@ -71,24 +72,24 @@ fn run_one<B: Basis, L: Ledger>(
 ) -> Result<(HaltLine, Session<B>), RunFault>
     requires plain { IsPlain p.now }
     requires ready { IsReadyIn p.now B.HasNumbers B.standing StageOne from.basis }
-    ensures ready { IfOk result (λ r. IsReady p.now B.HasNumbers B.standing r.1.place) }
-    ensures gives { IfOk result (λ r. Gives p.now options.now (spot_one B.standing from) r.0 (spot_at B.standing r.1.place)) }
-    ensures proof { IfOk result (λ r. KeepsProof p.now (spot_at B.standing r.1.place).point.standing r.0 r.1.proof) }
-    ensures says { IfOk result (λ r. SaysAt p.now options.now (spot_at B.standing r.1.place) r.0) }
+    ensures ready { IfOk result (λ r. IsReady p.now B.HasNumbers B.standing r.1.stage) }
+    ensures gives { IfOk result (λ r. Gives p.now options.now (spot_one B.standing from) r.0 (spot_at B.standing r.1.stage)) }
+    ensures proof { IfOk result (λ r. KeepsProof p.now (spot_at B.standing r.1.stage).point.standing r.0 r.1.proof) }
+    ensures says { IfOk result (λ r. SaysAt p.now options.now (spot_at B.standing r.1.stage) r.0) }
     ensures fault { IfErr result (IsRunFault p.now options.now (spot_one B.standing from)) }
 {
     let setting = setting_one(options);
     let (halt, at) = run_stage(alloc, p, setting, from, steps)?;
     if is_over(p, halt) {
         let earlier = at.pivots;
-        let second = start_stage_two(alloc, p, at.basis, steps)?;
+        let second = start_stage_two(alloc, p, at.basis, at.queue, steps)?;
         return run_two(alloc, p, options, second, earlier, steps);
     }
     let told = tell(alloc, p, setting, at, halt, steps)?;
     Ok((
         told.line,
         Session {
-            place: Place::One(told.at),
+            stage: InStage::One(told.at),
             proof: told.proof,
         },
     ))
@@ -104,10 +105,10 @@ fn run_two<B: Basis, L: Ledger>(
     steps: &mut Steps<L>,
 ) -> Result<(HaltLine, Session<B>), RunFault>
     requires ready { IsReadyIn p.now HoldsNumbers (λ b. b.state.standing) StageTwo from.basis }
-    ensures ready { IfOk result (λ r. IsReady p.now B.HasNumbers B.standing r.1.place) }
-    ensures gives { IfOk result (λ r. GivesInStage p.now options.now (spot_two from earlier) r.0 (spot_at B.standing r.1.place)) }
-    ensures proof { IfOk result (λ r. KeepsProof p.now (spot_at B.standing r.1.place).point.standing r.0 r.1.proof) }
-    ensures says { IfOk result (λ r. SaysAt p.now options.now (spot_at B.standing r.1.place) r.0) }
+    ensures ready { IfOk result (λ r. IsReady p.now B.HasNumbers B.standing r.1.stage) }
+    ensures gives { IfOk result (λ r. GivesInStage p.now options.now (spot_two from earlier) r.0 (spot_at B.standing r.1.stage)) }
+    ensures proof { IfOk result (λ r. KeepsProof p.now (spot_at B.standing r.1.stage).point.standing r.0 r.1.proof) }
+    ensures says { IfOk result (λ r. SaysAt p.now options.now (spot_at B.standing r.1.stage) r.0) }
     ensures fault { IfErr result (IsStageFault p.now (setting_in options.now StageTwo) (spot_two from earlier).point) }
 {
     let setting = setting_two(options);
@@ -116,7 +117,7 @@ fn run_two<B: Basis, L: Ledger>(
     Ok((
         told.line,
         Session {
-            place: Place::Two(told.at, earlier),
+            stage: InStage::Two(told.at, earlier),
             proof: told.proof,
         },
     ))
@@ -152,6 +153,7 @@ fn tell<B: Basis, L: Ledger>(
         mut basis,
         pivots,
         cursor,
+        queue,
     } = at;
     match line_of(alloc, p, setting, &mut basis, halt, steps) {
         Ok((line, proof)) => Ok(Told {
@@ -161,6 +163,7 @@ fn tell<B: Basis, L: Ledger>(
                 basis,
                 pivots,
                 cursor,
+                queue,
             },
         }),
         Err(fault) => Err(at_pivots(setting.stage, pivots, fault)),
@@ -181,11 +184,12 @@ fn at_pivots(stage: u8, pivots: u64, fault: CertOfFault) -> RunFault
     }
 }
 
-// Starts stage two after the state of a basis of stage one.
+// Starts stage two after the state of a basis of stage one, with the room of its queue.
 fn start_stage_two<B: Basis, L: Ledger>(
     alloc: Global,
     p: &Problem,
     first: B,
+    queue: Queue,
     steps: &mut Steps<L>,
 ) -> Result<StagePoint<DenseBasis>, RunFault>
     requires plain { IsPlain p.now }
@@ -196,6 +200,8 @@ fn start_stage_two<B: Basis, L: Ledger>(
     ensures fault { IfErr result (IsStartingFault p.now (B.standing first)) }
 {
     let mut first = first;
+    let mut queue = queue;
+    queue.clear();
     let state = match start_two(alloc, p, &first, steps) {
         Ok(state) => state,
         Err(fault) => return Err(starting_fault(fault)),
@@ -205,6 +211,7 @@ fn start_stage_two<B: Basis, L: Ledger>(
             basis,
             pivots: 0,
             cursor: 0,
+            queue,
         }),
         Err(fault) => Err(starting_fault(fault)),
     }

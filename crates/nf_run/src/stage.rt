@@ -1,6 +1,7 @@
 //! The run of one stage, and the line of its halt.
 ghost use Rattle.std.specs.Prelude.{◌≡◌, IfOk, IfErr};
 ghost use Rattle.nf_simplex.specs.Standing.{IsFeasibleState};
+ghost use Rattle.nf_price.specs.Rules.{HasSize};
 ghost use Rattle.nf_certify.specs.declared.ended.Ended.{Ended as End};
 ghost use Rattle.nf_certify.specs.Certificates.{IsCertFault};
 ghost use Rattle.nf_run.specs.Steps.{IsHaltIn, IsStageFault, Shows, point_at};
@@ -33,6 +34,7 @@ pub(crate) fn run_stage<B: Basis, L: Ledger>(
 ) -> Result<(Halt, StagePoint<B>), RunFault>
     requires numbers { B.HasNumbers p.now from.basis }
     requires feasible { IsFeasibleState p.now (B.standing from.basis) }
+    requires size { HasSize setting.rule }
     ensures numbers { IfOk result (λ r. B.HasNumbers p.now r.1.basis) }
     ensures feasible { IfOk result (λ r. IsFeasibleState p.now (B.standing r.1.basis)) }
     ensures stage { IfOk result (λ r. (B.standing r.1.basis).stage ≡ (B.standing from.basis).stage) }
@@ -43,8 +45,9 @@ pub(crate) fn run_stage<B: Basis, L: Ledger>(
         basis,
         pivots,
         cursor,
+        queue,
     } = from;
-    let mut engine = match Engine::new(alloc, p, basis, pivots, cursor) {
+    let mut engine = match Engine::new(alloc, p, basis, pivots, cursor, queue) {
         Ok(engine) => engine,
         Err(_) => return Err(RunFault::NoMemory),
     };
@@ -60,13 +63,14 @@ pub(crate) fn run_stage<B: Basis, L: Ledger>(
         }
     };
     let (pivots, cursor) = (engine.pivots(), engine.cursor());
-    let basis = engine.into_basis();
+    let (basis, queue) = engine.into_parts();
     Ok((
         halt,
         StagePoint {
             basis,
             pivots,
             cursor,
+            queue,
         },
     ))
 }

@@ -11,12 +11,13 @@ use crate::event::RunFault;
 use crate::line::halt_text;
 use crate::opening::open;
 use crate::run::run;
-use crate::session::{Place, Session, StagePoint};
+use crate::session::{InStage, Session, StagePoint};
 use nf_basis::{Basis, DenseBasis};
 use nf_frac::Steps;
 use nf_io::{Library, PutFault, Sink, write_all};
+use nf_price::Queue;
 use nf_prob::Problem;
-use nf_stmt::{SessionOptions, Statement};
+use nf_program::{SessionOptions, Statement};
 use std::alloc::Global;
 use std::marker::Brand;
 use std::sync::ledger::{Blank, Ledger};
@@ -114,13 +115,17 @@ fn obey_all<B: Basis, L: Ledger, K: Sink, D: Library>(
     ensures ok { OnOk result (ListsAll p.now options.now acts.now (option_copied certout.entry) (K.written listing.old) (K.written listing.new) (D.held library.old) (D.held library.new)) }
     ensures stops { IfErr result (StopsWith p.now options.now acts.now (option_copied certout.entry) (K.written listing.old) (K.written listing.new) (K.faults listing.old) (K.faults listing.new) (D.held library.old) (D.held library.new) (D.store_faults library.old) (D.store_faults library.new)) }
 {
+    let Ok(queue) = Queue::new(alloc) else {
+        return Err(RunFault::NoMemory);
+    };
     let mut steps = Steps::<L>::new(blank);
     let basis = open::<B, L>(alloc, p, &mut steps)?;
     let mut session = Session {
-        place: Place::One(StagePoint {
+        stage: InStage::One(StagePoint {
             basis,
             pivots: 0,
             cursor: 0,
+            queue,
         }),
         proof: None,
     };
@@ -141,11 +146,11 @@ fn obey<B: Basis, L: Ledger, K: Sink>(
     steps: &mut Steps<L>,
 ) -> Result<Session<B>, RunFault>
     requires plain { IsPlain p.now }
-    requires ready { IsReady p.now B.HasNumbers B.standing session.place }
+    requires ready { IsReady p.now B.HasNumbers B.standing session.stage }
     ensures later { K.faults listing.old ≤ K.faults listing.new }
     ensures quiet { K.quiet listing.new ≡ K.quiet listing.old }
     ensures calm { K.quiet listing.old ≡ true → K.faults listing.new ≡ K.faults listing.old }
-    ensures ready { IfOk result (λ s. IsReady p.now B.HasNumbers B.standing s.place) }
+    ensures ready { IfOk result (λ s. IsReady p.now B.HasNumbers B.standing s.stage) }
     ensures obeys { IfOk result (λ s. Obeys p.now options.now act.now (session_at B.standing session) (session_at B.standing s) (K.written listing.old) (K.written listing.new)) }
     ensures fault { IfErr result (IsObeyFault p.now options.now act.now (session_at B.standing session).spot (K.written listing.old) (K.written listing.new) (K.faults listing.old) (K.faults listing.new)) }
 {
@@ -165,16 +170,16 @@ fn obey_run<B: Basis, L: Ledger, K: Sink>(
     steps: &mut Steps<L>,
 ) -> Result<Session<B>, RunFault>
     requires plain { IsPlain p.now }
-    requires ready { IsReady p.now B.HasNumbers B.standing session.place }
+    requires ready { IsReady p.now B.HasNumbers B.standing session.stage }
     ensures later { K.faults listing.old ≤ K.faults listing.new }
     ensures quiet { K.quiet listing.new ≡ K.quiet listing.old }
     ensures calm { K.quiet listing.old ≡ true → K.faults listing.new ≡ K.faults listing.old }
-    ensures ready { IfOk result (λ s. IsReady p.now B.HasNumbers B.standing s.place) }
+    ensures ready { IfOk result (λ s. IsReady p.now B.HasNumbers B.standing s.stage) }
     ensures obeys { IfOk result (λ s. Obeys p.now options.now Statement.Run (session_at B.standing session) (session_at B.standing s) (K.written listing.old) (K.written listing.new)) }
     ensures fault { IfErr result (IsObeyFault p.now options.now Statement.Run (session_at B.standing session).spot (K.written listing.old) (K.written listing.new) (K.faults listing.old) (K.faults listing.new)) }
 {
     let (line, session) = run(alloc, p, options, session, steps)?;
-    let Ok(text) = halt_text(alloc, line, session.place.counts()) else {
+    let Ok(text) = halt_text(alloc, line, session.stage.counts()) else {
         return Err(RunFault::NoMemory);
     };
     match write_all(listing, text.bytes()) {

@@ -8,4 +8,4 @@ pub returns-clause-stage : goal.returns-clause-stage
 returns-clause-stage g c =
     let at = point g.B.Basis.standing in
     let runs = runs_of c.args.p.now c.args.setting _ (at c.in-Ok.engine) (at c.run.new.self) _ _ c.in-Ok-run.halt c.in-Ok-run.ensures.run c.from-most.ensures (ap at c.in-Ok.ensures) refl in
-    ap (λ (s : Standing). s.stage) (ap g.B.Basis.standing c.into_basis-basis.ensures) ∙ runs_stage c.args.p.now c.args.setting _ _ c.in-Ok-run.halt runs
+    ap (λ (s : Standing). s.stage) (ap g.B.Basis.standing c.into_parts-basis.ensures.basis) ∙ runs_stage c.args.p.now c.args.setting _ _ c.in-Ok-run.halt runs

@@ -1,7 +1,8 @@
-use Rattle.std.proofs.Common.{◌∙◌, arith, refl}
+use Rattle.std.proofs.Common.{◌∙◌, [], None, arith, refl, subst, sym}
 use Rattle.std.proofs.lemmas.Result.{err_from_is_err_and}
 use Rattle.std.specs.Option.{option_copied}
-use Rattle.nf_run.specs.Steps.{session_at}
+use Rattle.nf_price.specs.Queue.{pricing}
+use Rattle.nf_run.specs.Steps.{HasListed, session_at}
 use Rattle.nf_run.proofs.Answered.{if_err, on_ok}
 use Rattle.nf_run.proofs.Listed.{end_fails, ends_all, listed_next, listed_none, listed_whole, proof_lengths, stops_at, stops_opening}
 use Rattle.nf_run.proofs.statements.obey_all.Goals as goal
@@ -18,7 +19,8 @@ acts-init g c =
       later = omega arith;
       quiet = refl;
       calm = λ h. refl;
-      listed = listed_none c.args.p.now c.args.options.now (g.B.Basis.standing c.in_ok-basis.basis) (g.K.Sink.written c.args.listing.now) c.in_ok-basis.ensures.first;
+      listed = subst (λ q. HasListed c.args.p.now c.args.options.now [] (record { spot = record { point = record { standing = g.B.Basis.standing c.in_ok-basis.basis; pivots = 0; pricing = pricing 0 q }; earlier = 0 }; proof = None }) (g.K.Sink.written c.args.listing.now) (g.K.Sink.written c.args.listing.now)) (sym c.in-Ok.ensures)
+          (listed_none c.args.p.now c.args.options.now (g.B.Basis.standing c.in_ok-basis.basis) (g.K.Sink.written c.args.listing.now) c.in_ok-basis.ensures.first);
     }
 
 pub acts-preserved : goal.acts-preserved

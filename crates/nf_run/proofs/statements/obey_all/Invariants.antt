@@ -5,7 +5,7 @@ use Rattle.nf_run.proofs.statements.obey_all.Given as goal
 abbrev pub invariant-acts : goal.invariant-acts
 invariant-acts g l =
     record {
-      ready : IsReady l.p g.B.Basis.HasNumbers g.B.Basis.standing l.session.place;
+      ready : IsReady l.p g.B.Basis.HasNumbers g.B.Basis.standing l.session.stage;
       later : g.K.Sink.faults l.fn.listing ≤ g.K.Sink.faults l.listing;
       quiet : g.K.Sink.quiet l.listing ≡ g.K.Sink.quiet l.fn.listing;
       calm : g.K.Sink.quiet l.fn.listing ≡ true → g.K.Sink.faults l.listing ≡ g.K.Sink.faults l.fn.listing;
