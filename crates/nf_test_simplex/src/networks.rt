@@ -1,6 +1,7 @@
 // Random networks, the same in every run.
 ghost use Rattle.std.specs.Prelude.{◌≡◌, suc, ◌<◌, ◌≤◌, length, IfOk};
 ghost use Rattle.nf_model.specs.Program.{IsAtMost};
+ghost use Rattle.nf_price.specs.Rules.{HasSize};
 ghost use Rattle.nf_prob.specs.Building.{empty_program};
 
 use nf_frac::Frac;
@@ -42,11 +43,23 @@ impl Random {
     }
 
     /// A rule of pricing.
-    pub(crate) fn rule(&mut self) -> Rule {
-        match self.below(3) {
+    pub(crate) fn rule(&mut self) -> Rule
+        ensures size { HasSize result }
+    {
+        match self.below(5) {
             0 => Rule::First,
             1 => Rule::Best,
-            _ => Rule::Bland,
+            2 => Rule::Bland,
+            _ => self.queue_rule(),
+        }
+    }
+
+    /// The rule QUEUE, with a size from 1 to 4.
+    fn queue_rule(&mut self) -> Rule
+        ensures size { HasSize result }
+    {
+        Rule::Queue {
+            size: 1 + self.below(4),
         }
     }
 }

@@ -2,6 +2,7 @@
 ghost use Rattle.std.specs.Prelude.{◌≡◌, ◌<◌, IfOk};
 ghost use Rattle.nf_simplex.specs.StageOf.{StageOne};
 ghost use Rattle.nf_simplex.specs.Standing.{IsFeasibleState};
+ghost use Rattle.nf_price.specs.Rules.{HasSize};
 
 use crate::networks::{Random, network};
 use crate::plain::check_numbers;
@@ -9,7 +10,7 @@ use crate::start::open;
 use nf_basis::{Basis, DenseBasis};
 use nf_engine::{Engine, Moved};
 use nf_frac::Steps;
-use nf_price::Rule;
+use nf_price::{Queue, Rule};
 use nf_prob::Problem;
 use std::alloc::Global;
 use std::marker::Brand;
@@ -22,6 +23,7 @@ struct Walk<B: Basis> {
     basis: B,
     pivots: u64,
     cursor: u32,
+    queue: Queue,
 }
 
 // One step, and whether it moved. Its numbers are checked behind it.
@@ -34,6 +36,7 @@ fn step<B: Basis, L: Ledger>(
 ) -> Result<(bool, Walk<B>), Fail>
     requires numbers { B.HasNumbers p.now walk.basis }
     requires feasible { IsFeasibleState p.now (B.standing walk.basis) }
+    requires size { HasSize rule }
     ensures numbers { IfOk result (λ r. B.HasNumbers p.now r.1.basis) }
     ensures feasible { IfOk result (λ r. IsFeasibleState p.now (B.standing r.1.basis)) }
 {
@@ -41,14 +44,15 @@ fn step<B: Basis, L: Ledger>(
         basis,
         pivots,
         cursor,
+        queue,
     } = walk;
     if pivots > 100 {
         return Err(Fail::new("too many pivots"));
     }
-    let mut engine = Engine::new(alloc, p, basis, pivots, cursor)?;
+    let mut engine = Engine::new(alloc, p, basis, pivots, cursor, queue)?;
     let moved = engine.step(p, rule, steps)?;
     let (pivots, cursor) = (engine.pivots(), engine.cursor());
-    let mut basis = engine.into_basis();
+    let (mut basis, queue) = engine.into_parts();
     check_numbers(alloc, p, &mut basis, steps)?;
     let goes_on = matches!(&moved, Moved::Pivoted { .. } | Moved::Flipped(_));
     Ok((
@@ -57,6 +61,7 @@ fn step<B: Basis, L: Ledger>(
             basis,
             pivots,
             cursor,
+            queue,
         },
     ))
 }
@@ -80,6 +85,7 @@ fn goes<B: Basis, L: Ledger>(
         basis,
         pivots: 0,
         cursor: 0,
+        queue: Queue::new(alloc)?,
     };
     for taken in 0..12 {
         let (goes_on, next) = step(alloc, p, walk, random.rule(), &mut steps)?;

@@ -7,7 +7,7 @@ use crate::start::{open, rows_in};
 use nf_basis::{Basis, Col, DenseBasis};
 use nf_engine::Engine;
 use nf_frac::{Frac, Steps};
-use nf_price::Rule;
+use nf_price::{Queue, Rule};
 use nf_prob::{Problem, ProblemBuilder, RowKind};
 use nf_stage_two::{start_two, widen};
 use std::alloc::Global;
@@ -88,7 +88,7 @@ fn widened<L: Ledger>(alloc: Global, p: &Problem, blank: Blank) -> Result<Vec<Ro
 {
     let mut steps = Steps::<L>::new(blank);
     let basis = open::<DenseBasis, L>(alloc, p, &mut steps)?;
-    let mut engine = Engine::new(alloc, p, basis, 0, 0)?;
+    let mut engine = Engine::new(alloc, p, basis, 0, 0, Queue::new(alloc)?)?;
     engine.step(p, Rule::First, &mut steps)?;
     let mut first = engine.into_basis();
     if first.state().stage() != 1 {
