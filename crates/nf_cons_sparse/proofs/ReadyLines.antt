@@ -14,7 +14,7 @@ use Rattle.nf_model.specs.declared.RowKind.TheVariants as side
 use Rattle.nf_program.specs.declared.program.Role.TheVariants as role
 use Rattle.nf_roles.specs.declared.fault.DataKind.TheVariants as kind
 use Rattle.nf_network.proofs.Lists.{joined-more, joined-none}
-use Rattle.nf_cons.specs.declared.places.Place.TheVariants.{OfRole}
+use Rattle.nf_cons.specs.declared.places.DataColumn.TheVariants.{OfRole}
 use Rattle.nf_cons.specs.declared.taken.SideRow.{SideRow}
 use Rattle.nf_cons.specs.Dense.{most_constraints, side_if}
 use Rattle.nf_cons.specs.Places.{first_of}

@@ -11,7 +11,7 @@ use Rattle.nf_network.specs.Network.{Network}
 use Rattle.nf_network.proofs.PassFacts.{map-length}
 use Rattle.nf_cons.specs.declared.places.RowFault.{RowFault}
 use Rattle.nf_cons.specs.declared.taken.SideRow.{SideRow}
-use Rattle.nf_cons.specs.Bounds.{defaults_of}
+use Rattle.nf_cons.specs.Bounds.{nonarc_defaults}
 use Rattle.nf_cons.specs.Constrained.{constrained_labels, constrained_program}
 use Rattle.nf_cons.specs.Making.{AreConstraints, AreInOrder}
 use Rattle.nf_cons.specs.Naming.{VariableList}
@@ -33,7 +33,7 @@ sparse-told o n roles table f e (inr q) (inr t) memory = inr (rw (q, t) refl)
 -- Without a fault of bounds, no bounds cross.
 pub sparse-ordered : (o : ProcOptions) (arcs : List Name) (roles : RoleColumns) (table : Grid) → sparse_fault o arcs roles table ≡ None
     → (v : VariableList) (ns : List Name) (ss : List SideRow) (ls : TermLists) → AreConstraints arcs (sparse_constraints o arcs roles table) v ns ss ls
-    → AreInOrder (defaults_of o) v.arcs.count ls (length v.nonarcs)
+    → AreInOrder (nonarc_defaults o) v.arcs.count ls (length v.nonarcs)
 sparse-ordered o arcs roles table clear v ns ss ls e =
     let s = sparse_of o arcs roles table in
     let size : length (sparse_of o arcs roles table).lines ≡ length table.rows = map-length (sparse_line roles) table.rows in

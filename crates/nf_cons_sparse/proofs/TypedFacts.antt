@@ -19,7 +19,7 @@ use Rattle.nf_cons.specs.declared.value.Value.{Value}
 use Rattle.nf_cons.specs.declared.value.Value.TheVariants.{NoUpper}
 use Rattle.nf_cons.specs.declared.row_type.RowType.{RowType}
 use Rattle.nf_cons.specs.Dense.{most_constraints}
-use Rattle.nf_cons.specs.declared.places.Place.TheVariants.{OfRole}
+use Rattle.nf_cons.specs.declared.places.DataColumn.TheVariants.{OfRole}
 use Rattle.nf_cons.specs.declared.places.PlacedFault.{PlacedFault}
 use Rattle.nf_cons.specs.Places.{IsFaultOf, fault_if, first_of}
 use Rattle.nf_cons.proofs.FaultFacts.{both, first-append, right}

@@ -12,10 +12,10 @@ use Rattle.nf_roles.specs.declared.fault.DataKind.TheVariants as kind
 use Rattle.nf_roles.specs.First.{first_below, or_else}
 use Rattle.nf_roles.specs.Roles.{RoleColumns}
 use Rattle.nf_network.proofs.PassFacts.{map-length}
-use Rattle.nf_cons.specs.declared.places.Place.TheVariants.{OfRole}
+use Rattle.nf_cons.specs.declared.places.DataColumn.TheVariants.{OfRole}
 use Rattle.nf_cons.specs.declared.places.RowFault.{RowFault}
 use Rattle.nf_cons.specs.declared.taken.SideRow.{SideRow}
-use Rattle.nf_cons.specs.Bounds.{defaults_of, first_bound_fault}
+use Rattle.nf_cons.specs.Bounds.{nonarc_defaults, first_bound_fault}
 use Rattle.nf_cons.specs.Due.{bounds_fault}
 use Rattle.nf_cons.specs.Making.{AreConstraints, AreReady, IsPlaced}
 use Rattle.nf_cons.specs.Naming.{VariableList}
@@ -132,7 +132,7 @@ module _ (s : Sparse) (l : LineState) (after : IsAfterLines s (length s.lines) l
 pub whole : (o : ProcOptions) (arcs : List Name) (roles : RoleColumns) (table : Grid) (l : LineState) → IsAfterLines (sparse_of o arcs roles table) (length (sparse_of o arcs roles table).lines) l
     → first_line_fault (sparse_of o arcs roles table) ≡ None → first_typed_to l ≡ None
     → (v : VariableList) (ns : List Name) (ss : List SideRow) (ls : TermLists) → v ≡ l.variables → ns ≡ l.names → ss ≡ (typed_to l (length l.taken)).sides → ls ≡ (typed_to l (length l.taken)).lists
-    → first_bound_fault v.arcs.count (defaults_of o) v.homes ls ≡ None
+    → first_bound_fault v.arcs.count (nonarc_defaults o) v.homes ls ≡ None
     → (sparse_fault o arcs roles table ≡ None) × AreConstraints arcs (sparse_constraints o arcs roles table) v ns ss ls
 whole o arcs roles table l after lines found v ns ss ls ev en es el bounds =
     let s = sparse_of o arcs roles table in
@@ -160,7 +160,7 @@ whole o arcs roles table l after lines found v ns ss ls ev en es el bounds =
 pub bounds-told : (o : ProcOptions) (arcs : List Name) (roles : RoleColumns) (table : Grid) (l : LineState) → IsAfterLines (sparse_of o arcs roles table) (length (sparse_of o arcs roles table).lines) l
     → first_line_fault (sparse_of o arcs roles table) ≡ None → first_typed_to l ≡ None
     → (v : VariableList) (ls : TermLists) → v ≡ l.variables → ls ≡ (typed_to l (length l.taken)).lists
-    → (f : RowFault) → first_bound_fault v.arcs.count (defaults_of o) v.homes ls ≡ Some f → IsRowFaultOf (sparse_fault o arcs roles table) f
+    → (f : RowFault) → first_bound_fault v.arcs.count (nonarc_defaults o) v.homes ls ≡ Some f → IsRowFaultOf (sparse_fault o arcs roles table) f
 bounds-told o arcs roles table l after lines found v ls ev el f bounds =
     let s = sparse_of o arcs roles table in
     let n = length (sparse_of o arcs roles table).lines in

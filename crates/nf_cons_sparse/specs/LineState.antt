@@ -11,7 +11,7 @@ use Rattle.nf_roles.specs.First.{or_else}
 use Rattle.nf_network.specs.Arcs.{said}
 use Rattle.nf_network.specs.Excess.{joined_below}
 use Rattle.nf_network.specs.Faults.{is_said}
-use Rattle.nf_cons.specs.declared.places.Place.TheVariants.{OfRole}
+use Rattle.nf_cons.specs.declared.places.DataColumn.TheVariants.{OfRole}
 use Rattle.nf_cons.specs.declared.places.PlacedFault.{PlacedFault}
 use Rattle.nf_cons.specs.declared.row_type.RowType.{RowType}
 use Rattle.nf_cons.specs.Dense.{most_coefficients}

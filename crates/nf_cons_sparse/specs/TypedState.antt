@@ -8,7 +8,7 @@ use Rattle.nf_cells.specs.declared.values.Cell.TheVariants.{Is}
 use Rattle.nf_program.specs.declared.program.Role.TheVariants as role
 use Rattle.nf_roles.specs.declared.fault.DataKind.TheVariants as kind
 use Rattle.nf_roles.specs.First.{first_below}
-use Rattle.nf_cons.specs.declared.places.Place.TheVariants.{OfRole}
+use Rattle.nf_cons.specs.declared.places.DataColumn.TheVariants.{OfRole}
 use Rattle.nf_cons.specs.declared.places.PlacedFault.{PlacedFault}
 use Rattle.nf_cons.specs.declared.places.RowFault.{RowFault}
 use Rattle.nf_cons.specs.declared.taken.SideRow.{SideRow}

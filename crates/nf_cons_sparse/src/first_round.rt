@@ -15,7 +15,8 @@ use crate::pairs::Pairs;
 use crate::sparse_line::{Line, read_line};
 use nf_cells::{Cell, Names};
 use nf_cons::{
-    Home, MOST_COEFFICIENTS, Place, PlacedFault, RowType, Value, Variables, at_role, is_same_type,
+    DataColumn, Home, MOST_COEFFICIENTS, PlacedFault, RowType, Value, Variables, at_role,
+    is_same_type,
 };
 use nf_frac::Amount;
 use nf_program::Role;
@@ -267,7 +268,7 @@ impl Lines {
         };
         let home = Home {
             row: number,
-            place: Place::OfRole(Role::Column),
+            place: DataColumn::OfRole(Role::Column),
         };
         match self.variables.number(name, false, home) {
             Ok(variable) => Ok(Some(variable)),

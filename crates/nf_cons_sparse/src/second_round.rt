@@ -8,7 +8,7 @@ ghost use Rattle.nf_cons_sparse.specs.TypedState.{number_faults_now, typed_fault
 
 use crate::given::{GivenRow, TakenLine};
 use nf_cons::{
-    Constraints, MOST_CONSTRAINTS, Place, PlacedFault, RowType, SideRow, Term, Value, at_role,
+    Constraints, DataColumn, MOST_CONSTRAINTS, PlacedFault, RowType, SideRow, Term, Value, at_role,
     may_be, side_kind,
 };
 use nf_frac::Amount;
@@ -124,8 +124,8 @@ impl TypedLines {
             variable,
             is_arc: self.constraints.variables.is_arc(variable),
             value,
-            named_at: Place::OfRole(Role::Column),
-            given_at: Place::OfRole(Role::Coef),
+            named_at: DataColumn::OfRole(Role::Column),
+            given_at: DataColumn::OfRole(Role::Coef),
         };
         let constraint = self.numbers[row];
         self.constraints

@@ -16,7 +16,7 @@ use crate::first_round::Lines;
 use crate::second_round::TypedLines;
 use nf_cons::{
     Constraints, RowFault, Terms, Variables, add_constraints, arc_names, check_bounds,
-    default_type, defaults_of, in_row, no_memory, told,
+    default_type, in_row, no_memory, nonarc_defaults, told,
 };
 use nf_labels::Labels;
 use nf_prob::ProblemBuilder;
@@ -88,7 +88,7 @@ fn read_sparse(
         Ok(constraints) => constraints,
         Err(fault) => return Err(fault),
     };
-    match check_bounds(&constraints, defaults_of(options)) {
+    match check_bounds(&constraints, nonarc_defaults(options)) {
         Ok(()) => Ok(constraints),
         Err(fault) => Err(fault),
     }

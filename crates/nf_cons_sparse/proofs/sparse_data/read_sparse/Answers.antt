@@ -26,11 +26,11 @@ returns-in-Ok-check_bounds c =
     let size = map-length (sparse_line c.args.roles.now) c.args.table.now.rows in
     let t = c.in-Ok-type_lines.ensures in
     whole c.args.options.now (arcs_of c.args.labels.now) c.args.roles.now c.args.table.now c.in-Ok.lines (rw size c.in-Ok.ensures.1) c.in-Ok.ensures.0 t.0
-    c.in-Ok-type_lines.constraints.variables _ _ _ t.1 t.2 t.3 t.4 (rw c.defaults_of.ensures at c.in-Ok-check_bounds.ensures)
+    c.in-Ok-type_lines.constraints.variables _ _ _ t.1 t.2 t.3 t.4 (rw c.nonarc_defaults.ensures at c.in-Ok-check_bounds.ensures)
 
 pub returns-in-Err-check_bounds : goal.returns-in-Err-check_bounds
 returns-in-Err-check_bounds c =
     let size = map-length (sparse_line c.args.roles.now) c.args.table.now.rows in
     let t = c.in-Ok-type_lines.ensures in
     bounds-told c.args.options.now (arcs_of c.args.labels.now) c.args.roles.now c.args.table.now c.in-Ok.lines (rw size c.in-Ok.ensures.1) c.in-Ok.ensures.0 t.0
-    c.in-Ok-type_lines.constraints.variables _ t.1 t.4 c.in-Err-check_bounds.fault (rw c.defaults_of.ensures at c.in-Err-check_bounds.ensures)
+    c.in-Ok-type_lines.constraints.variables _ t.1 t.4 c.in-Err-check_bounds.fault (rw c.nonarc_defaults.ensures at c.in-Err-check_bounds.ensures)
