@@ -17,8 +17,8 @@ use nf_io::Text;
 use nf_labels::Labels;
 use nf_network::network;
 use nf_prob::{Problem, ProblemBuilder};
+use nf_program::{ProcOptions, Program, SetName};
 use nf_roles::{DataFault, DataKind, RoleFault, Roles, SetKind, assign};
-use nf_stmt::{ProcOptions, Program, SetName};
 use nf_table::Table;
 use std::alloc::Global;
 

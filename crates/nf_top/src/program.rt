@@ -10,11 +10,11 @@ ghost use Rattle.nf_top.specs.Steps.{Stops, lent_name, names_of, stop_of};
 ghost use Rattle.nf_top.specs.Words.{IsCommand};
 
 use crate::refusal::{Refusal, Stop};
-use nf_run::are_standing;
-use nf_stmt::{
+use nf_program::{
     Command, Name, PriceType, ProcOptions, Program, SessionOptions, StmtFault, StmtKind,
-    read_program,
 };
+use nf_reader::read_program;
+use nf_run::are_standing;
 use std::alloc::Global;
 use std::str;
 

@@ -9,8 +9,8 @@ use nf_cert::CertFault;
 use nf_frac::Passed;
 use nf_io::Text;
 use nf_prob::Why;
+use nf_program::{SetName, StmtFault};
 use nf_roles::{DataFault, RoleFault};
-use nf_stmt::{SetName, StmtFault};
 use nf_table::TableFault;
 use std::alloc::{AllocError, Global};
 

@@ -16,8 +16,8 @@ use crate::status::Status;
 use nf_frac::Passed;
 use nf_io::{Library, PutFault, Sink, write_all};
 use nf_prob::Problem;
+use nf_program::Program;
 use nf_run::{RunFault, run_program};
-use nf_stmt::Program;
 use std::alloc::Global;
 
 // Tells an operation of a run that passes 128 bits, behind the lines of the statements before it.

@@ -2,7 +2,7 @@
 ghost use Rattle.std.specs.Prelude.{◌≡◌};
 ghost use Rattle.nf_top.specs.Lines.{role_word, set_word};
 
-use nf_stmt::{Role, SetName};
+use nf_program::{Role, SetName};
 
 /// The word of PROC by which a data set is told, or PROC itself.
 pub(crate) fn set_word(set: SetName) -> &'static str

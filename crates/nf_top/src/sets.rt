@@ -9,7 +9,7 @@ ghost use Rattle.nf_top.specs.Steps.{SawFetches, Stops, bytes_in, grids_of, lent
 use crate::program::SetNames;
 use crate::refusal::{Refusal, Stop};
 use nf_io::{FetchFault, Library, Text};
-use nf_stmt::{Command, SetName};
+use nf_program::{Command, SetName};
 use nf_table::{Table, TableFault, read_table};
 use std::alloc::{AllocError, Global};
 

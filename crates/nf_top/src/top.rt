@@ -26,8 +26,8 @@ use nf_io::{
     Library, MOST_PROGRAM_BYTES, PutFault, ReadAllFault, Sink, Source, Text, read_all, write_all,
 };
 use nf_prob::Problem;
+use nf_program::{Command, Program, StmtFault, StmtKind};
 use nf_run::HaltLine;
-use nf_stmt::{Command, Program, StmtFault, StmtKind};
 use std::alloc::{AllocError, Global};
 
 /// The fault of a text of more bytes.

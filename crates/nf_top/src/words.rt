@@ -4,7 +4,7 @@ ghost use Rattle.std.specs.String.{string_bytes};
 ghost use Rattle.nf_program.specs.declared.program.Command.{Command as Commands};
 ghost use Rattle.nf_top.specs.Words.{IsCommand};
 
-use nf_stmt::Command;
+use nf_program::Command;
 
 /// The command that the words are, if they are one.
 pub(crate) fn command_of(words: &[String]) -> Option<Command>
