@@ -23,7 +23,7 @@ use Rattle.nf_top.specs.declared.refusal.Refusal.{Refusal}
 use Rattle.nf_top.specs.declared.refusal.Refusal.TheVariants as refusal
 use Rattle.nf_top.specs.declared.status.Status.{Status}
 use Rattle.nf_top.specs.declared.status.Status.TheVariants as status
-use Rattle.nf_top.specs.Data.{Sets, IsTable, bytes_of, data_of}
+use Rattle.nf_top.specs.Data.{Sets, IsTable, IsTableOrNone, bytes_of, data_of}
 use Rattle.nf_top.specs.Headline.{AcceptsTheValid, ClaimIsProved, Claims, IsValid, Proves}
 use Rattle.nf_top.specs.Lines.{accepted_lines}
 use Rattle.nf_program.specs.declared.program.Command.{Command}
@@ -106,11 +106,11 @@ pub table-short : (bytes : List ℕ) (g : Grid) → table_read bytes ≡ Ok g �
 table-short bytes g h = not-longer most_bytes (length bytes) (if-ok (nat_lt most_bytes (length bytes)) _ _ g h)
 
 -- ---- what a call takes in is what its source and library tell
-has-set : (held : Option Held) (p : SetNames) (sets : Sets) → AreHeld Check held p sets → (s : SetName) → IsHeldOrNone held (name_of p s) (bytes_of sets s)
+pub has-set : (held : Option Held) (p : SetNames) (sets : Sets) → AreHeld held p sets → (s : SetName) → IsHeldOrNone held (name_of p s) (bytes_of sets s)
 has-set held p sets h set.Arcdata = h.arcdata
 has-set held p sets h set.Nodedata = h.nodedata
 has-set held p sets h set.Condata = h.condata
-has-set held p sets h set.Certdata = h.certdata refl
+has-set held p sets h set.Certdata = h.certdata
 has-set held p sets h set.Conin = tt
 has-set held p sets h set.Dualin = tt
 has-set held p sets h set.Sessiondata = tt
@@ -130,7 +130,7 @@ one-names p q m n e h k = λ i. record {
   arcdata = some-same p.proc.arcdata q.proc.arcdata m.arcdata n.arcdata (ap (λ r. r.proc.arcdata) e) h.arcdata k.arcdata i;
   nodedata = (sym h.nodedata ∙ (ap (λ r. r.proc.nodedata) e ∙ k.nodedata)) i;
   condata = (sym h.condata ∙ (ap (λ r. r.proc.condata) e ∙ k.condata)) i;
-  certdata = some-same p.proc.certdata q.proc.certdata m.certdata n.certdata (ap (λ r. r.proc.certdata) e) h.certdata k.certdata i;
+  certdata = (sym h.certdata ∙ (ap (λ r. r.proc.certdata) e ∙ k.certdata)) i;
 }
 
 names-same : (i : Input) (problem : LinearProgram) (certificate : Cert) (k : Claims i problem certificate) (n : SetNames) → NamesSets i Check n → n ≡ k.names
@@ -155,7 +155,7 @@ has-table : (i : Input) (problem : LinearProgram) (certificate : Cert) (k : Clai
 has-table i problem certificate k set.Arcdata b e = let t = arcs_table k.program (data_of k.sets) k.posed.network k.posed.posed in (t.0, subst (λ v. IsTable v t.0) (cc e) t.1)
 has-table i problem certificate k set.Nodedata b e = nodes_table k.program (data_of k.sets) k.posed.network k.posed.posed b e
 has-table i problem certificate k set.Condata b e = cons_table k.program (data_of k.sets) k.posed.network k.posed.posed b e
-has-table i problem certificate k set.Certdata b e = (k.claimed.table, subst (λ v. IsTable v k.claimed.table) (cc e) k.claimed.table_is)
+has-table i problem certificate k set.Certdata b e = (k.claimed.table, subst (λ o. IsTableOrNone o (Some k.claimed.table)) e k.claimed.table_is)
 has-table i problem certificate k set.Conin b e = cc e
 has-table i problem certificate k set.Dualin b e = cc e
 has-table i problem certificate k set.Sessiondata b e = cc e
@@ -180,11 +180,16 @@ claimed-twice f a b p q x y e g h k = cc
 never-claimed : {E : Type 0} (f : Grid → LinearProgram → Result Cert E) (a b : Grid) (p q : LinearProgram) (x : E) (y : Cert) → a ≡ b → p ≡ q → f a p ≡ Err x → f b q ≡ Ok y → ⊥
 never-claimed f a b p q x y e g h k = cc (e, g, h, k)
 
-pub certdata-same : (a b : List ℕ) → Some a ≡ Some b → a ≡ b
-certdata-same a b h = cc
+bytes-are : (a b : List ℕ) → Some a ≡ Some b → a ≡ b
+bytes-are a b h = cc
 
-data-same : (a b : Sets) → ((s : SetName) → bytes_of a s ≡ bytes_of b s) → data_of a ≡ data_of b
-data-same a b same = λ i. record { arcdata = certdata-same a.arcdata b.arcdata (same set.Arcdata) i; nodedata = same set.Nodedata i; condata = same set.Condata i }
+table-twice : (a b : Option (List ℕ)) (g h : Grid) → a ≡ b → IsTableOrNone a (Some g) → IsTableOrNone b (Some h) → g ≡ h
+table-twice None b g h e x y = absurd x
+table-twice (Some a) None g h e x y = absurd y
+table-twice (Some a) (Some b) g h e x y = read-twice table_read a b g h (bytes-are a b e) x y
+
+pub data-same : (a b : Sets) → ((s : SetName) → bytes_of a s ≡ bytes_of b s) → data_of a ≡ data_of b
+data-same a b same = λ i. record { arcdata = bytes-are a.arcdata b.arcdata (same set.Arcdata) i; nodedata = same set.Nodedata i; condata = same set.Condata i }
 
 problem-same : (i : Input) (problem : LinearProgram) (certificate : Cert) (k : Claims i problem certificate) (sets : Sets) (q : LinearProgram) → PosesProblem i Check sets q → q ≡ problem
 problem-same i problem certificate k sets q h =
@@ -203,7 +208,7 @@ certificate-same : (i : Input) (problem : LinearProgram) (certificate : Cert) (k
 certificate-same i problem certificate k q x h =
     let same = sets-same i problem certificate k h.sets h.poses.fetches in
     claimed-twice (λ t p. cert_read t (length p.columns) (length p.rows)) h.claimed.table k.claimed.table q problem x certificate
-    (read-twice table_read _ _ _ _ (certdata-same _ _ (same set.Certdata)) h.claimed.table_is k.claimed.table_is)
+    (table-twice h.sets.certdata k.sets.certdata h.claimed.table k.claimed.table (same set.Certdata) h.claimed.table_is k.claimed.table_is)
     (problem-same i problem certificate k h.sets q h.poses) h.claimed.claimed k.claimed.claimed
 
 never-answered : (p : LinearProgram) (c : Cert) (w : Why) → IsValid p c → IsAnswer p c (checked.No w) → ⊥
@@ -241,28 +246,28 @@ not-taken i problem certificate k Check p reads none = none (stands-to-check p k
 
 refused-range : (i : Input) (problem : LinearProgram) (certificate : Cert) (k : Claims i problem certificate) → IsValid problem certificate
     → (Rose i.source_faults i.source_faults_after → ⊥) → (Rose i.fetch_faults i.fetch_faults_after → ⊥) → (r : Refusal) → Refuses i r → IsRange r
-refused-range i problem certificate k v s l refusal.Usage h = h Check k.words
-refused-range i problem certificate k v s l (refusal.NoProgram fault) (c, words, text, taken, found, why) = no-text i problem _ k c text fault words taken found why
-refused-range i problem certificate k v s l refusal.NotStanding (c, p, reads, none) = not-taken i problem _ k c p reads none
-refused-range i problem certificate k v s l refusal.ReadFault (c, words, inl rose) = s rose
-refused-range i problem certificate k v s l refusal.ReadFault (c, words, inr (n, set, name, here, named, before, is, rose)) = l rose
-refused-range i problem certificate k v s l (refusal.Absent name) (Run, p, set, fetches, reads, before, is, lacks, rose) = not-both i.words k.words reads.reads.words
-refused-range i problem certificate k v s l (refusal.Absent name) (Again, p, set, fetches, reads, before, is, lacks, rose) = absurd reads.reads.words
-refused-range i problem certificate k v s l (refusal.Absent name) (Export, p, set, fetches, reads, before, is, lacks, rose) = absurd reads.reads.words
-refused-range i problem certificate k v s l (refusal.Absent name) (Check, p, set, fetches, reads, before, is, lacks, rose) =
+refused-range i problem certificate k v s l refusal.Usage (other, none) = other Check k.words
+refused-range i problem certificate k v s l (refusal.NoProgram fault) (c, words, text, taken, found, why, all) = no-text i problem _ k c text fault words taken found why
+refused-range i problem certificate k v s l refusal.NotStanding (c, p, reads, none, all) = not-taken i problem _ k c p reads none
+refused-range i problem certificate k v s l refusal.ReadFault (c, words, there, inl (rose, sound)) = s rose
+refused-range i problem certificate k v s l refusal.ReadFault (c, words, there, inr (n, set, name, named, before, is, rose)) = l rose
+refused-range i problem certificate k v s l (refusal.Absent name) (Run, p, set, reads, before, is, lacks, rose, sound) = not-both i.words k.words reads.reads.words
+refused-range i problem certificate k v s l (refusal.Absent name) (Again, p, set, reads, before, is, lacks, rose, sound) = absurd reads.reads.words
+refused-range i problem certificate k v s l (refusal.Absent name) (Export, p, set, reads, before, is, lacks, rose, sound) = absurd reads.reads.words
+refused-range i problem certificate k v s l (refusal.Absent name) (Check, p, set, reads, before, is, lacks, rose, sound) =
     let b = name-there i problem _ k p reads set name is in
     never-lacks k.library name b.0 b.1 (rw k.tells at lacks)
-refused-range i problem certificate k v s l (refusal.TooLong set) (Run, p, name, fetches, reads, before, is, many) = not-both i.words k.words reads.reads.words
-refused-range i problem certificate k v s l (refusal.TooLong set) (Again, p, name, fetches, reads, before, is, many) = absurd reads.reads.words
-refused-range i problem certificate k v s l (refusal.TooLong set) (Export, p, name, fetches, reads, before, is, many) = absurd reads.reads.words
-refused-range i problem certificate k v s l (refusal.TooLong set) (Check, p, name, fetches, reads, before, is, many) =
+refused-range i problem certificate k v s l (refusal.TooLong set) (Run, p, name, reads, before, is, many, all) = not-both i.words k.words reads.reads.words
+refused-range i problem certificate k v s l (refusal.TooLong set) (Again, p, name, reads, before, is, many, all) = absurd reads.reads.words
+refused-range i problem certificate k v s l (refusal.TooLong set) (Export, p, name, reads, before, is, many, all) = absurd reads.reads.words
+refused-range i problem certificate k v s l (refusal.TooLong set) (Check, p, name, reads, before, is, many, all) =
     let b = name-there i problem _ k p reads set name is in
     let t = has-table i problem _ k set b.0 b.2 in
     never-many k.library name b.0 b.1 (table-short b.0 t.0 t.1) (rw k.tells at many)
-refused-range i problem certificate k v s l (refusal.NoTable set fault) (Run, sets, bytes, here, fetches, before, is, e) = not-both i.words k.words fetches.named.reads.words
-refused-range i problem certificate k v s l (refusal.NoTable set fault) (Again, sets, bytes, here, fetches, before, is, e) = absurd fetches.named.reads.words
-refused-range i problem certificate k v s l (refusal.NoTable set fault) (Export, sets, bytes, here, fetches, before, is, e) = absurd fetches.named.reads.words
-refused-range i problem certificate k v s l (refusal.NoTable set fault) (Check, sets, bytes, here, fetches, before, is, e) =
+refused-range i problem certificate k v s l (refusal.NoTable set fault) (Run, sets, bytes, fetches, before, is, e) = not-both i.words k.words fetches.named.reads.words
+refused-range i problem certificate k v s l (refusal.NoTable set fault) (Again, sets, bytes, fetches, before, is, e) = absurd fetches.named.reads.words
+refused-range i problem certificate k v s l (refusal.NoTable set fault) (Export, sets, bytes, fetches, before, is, e) = absurd fetches.named.reads.words
+refused-range i problem certificate k v s l (refusal.NoTable set fault) (Check, sets, bytes, fetches, before, is, e) =
     let t = has-table i problem _ k set bytes (sym (sets-same i problem _ k sets fetches set) ∙ sym is) in
     never-both table_read bytes bytes fault t.0 refl e t.1
 refused-range i problem certificate k v s l (refusal.NoRoles set fault) (Run, sets, fetches, t, tables, e) = not-both i.words k.words fetches.named.reads.words
@@ -276,7 +281,7 @@ refused-range i problem certificate k v s l (refusal.NoNetwork fault) (Check, se
 refused-range i problem certificate k v s l (refusal.NoCertificate fault) (sets, q, poses, table, is, e) =
     let same = sets-same i problem _ k sets poses.fetches in
     never-claimed (λ t p. cert_read t (length p.columns) (length p.rows)) table k.claimed.table q problem fault _
-    (read-twice table_read _ _ _ _ (certdata-same _ _ (same set.Certdata)) is k.claimed.table_is) (problem-same i problem _ k sets q poses) e k.claimed.claimed
+    (table-twice sets.certdata k.sets.certdata table k.claimed.table (same set.Certdata) is k.claimed.table_is) (problem-same i problem _ k sets q poses) e k.claimed.claimed
 refused-range i problem certificate k v s l (refusal.NotValid told) (q, x, why, reads, answered, is) =
     not-valid problem q x certificate why (problem-same i problem _ k reads.sets q reads.poses) (certificate-same i problem _ k q x reads) v answered
 refused-range i problem certificate k v s l (refusal.Range passed) h = tt

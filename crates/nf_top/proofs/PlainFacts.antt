@@ -5,7 +5,6 @@ use Rattle.std.specs.Bool.{nat_lt}
 use Rattle.nf_table.specs.Grid.{Grid}
 use Rattle.nf_table.specs.Reading.{table_read}
 use Rattle.nf_table.specs.declared.table.TableFault.{TableFault}
-use Rattle.nf_program.specs.declared.program.Command.{Command}
 use Rattle.nf_program.specs.declared.program.Program.{Program}
 use Rattle.nf_program.specs.declared.program.SetName.{SetName}
 use Rattle.nf_program.specs.declared.program.SetName.TheVariants.{Arcdata, Nodedata, Condata}
@@ -37,9 +36,9 @@ there_or_none q None (Some t) h = absurd h
 there_or_none q (Some b) None h = absurd h
 there_or_none q (Some b) (Some t) h = ap (λ r. where_there (in_set q r)) h
 
-pub posed_by_tables : (c : Command) (s : Sets) (t : Grids) (p : Program) → AreTables c s t → problem_of p (data_of s) ≡ problem_in p t.arcdata t.nodedata t.condata
+pub posed_by_tables : (s : Sets) (t : Grids) (p : Program) → AreTables s t → problem_of p (data_of s) ≡ problem_in p t.arcdata t.nodedata t.condata
 unfolding problem_of
-posed_by_tables c s t p h =
+posed_by_tables s t p h =
     then_step (in_set Arcdata (table_read s.arcdata)) t.arcdata _ (ap (in_set Arcdata) h.arcdata)
     ∙ (then_step (table_of Nodedata s.nodedata) t.nodedata _ (there_or_none Nodedata s.nodedata t.nodedata h.nodedata)
     ∙ then_step (table_of Condata s.condata) t.condata _ (there_or_none Condata s.condata t.condata h.condata))

@@ -1,5 +1,5 @@
 -- What a run takes in is told in one way, so an accepted program is not refused.
-use Rattle.std.proofs.Common.{◌≡◌, ◌∙◌, ◌<◌, ◌⊎◌, ℕ, List, Option, Some, Err, inl, inr, length, arith, refl, sym, ap, subst}
+use Rattle.std.proofs.Common.{◌≡◌, ◌∙◌, ◌<◌, ◌⊎◌, ℕ, List, Option, None, Some, Err, inl, inr, length, arith, refl, sym, ap, subst}
 use Rattle.std.specs.Io.KnownBytes.{Consumes, IsAtEnd}
 use Rattle.nf_io.specs.Causes.{Rose}
 use Rattle.nf_io.specs.Held.{Held, HasName}
@@ -18,13 +18,13 @@ use Rattle.nf_top.specs.declared.refusal.Refusal.{Refusal}
 use Rattle.nf_top.specs.declared.refusal.Refusal.TheVariants as refusal
 use Rattle.nf_top.specs.declared.status.Status.{Status}
 use Rattle.nf_top.specs.declared.status.Status.TheVariants as status
-use Rattle.nf_top.specs.Data.{Fetches, Sets, IsTable, bytes_of, data_of}
+use Rattle.nf_top.specs.Data.{Sets, IsTable, bytes_of, data_of}
 use Rattle.nf_top.specs.Headline.{IsAccepted, RunsTheAccepted}
-use Rattle.nf_top.specs.Outcome.{AreHeld, Call, Comes, FetchesSets, Input, IsHeldOrNone, NamesSets, ReadsProgram, Refuses, name_of}
+use Rattle.nf_top.specs.Outcome.{Call, Comes, FetchesSets, Input, IsHeldOrNone, NamesSets, ReadsProgram, Refuses, name_of}
 use Rattle.nf_top.specs.ProblemOf.{Refusal as ProblemRefusal, OfData, OfRoles, problem_of}
 use Rattle.nf_top.specs.Standing.{IsStanding, SetNames, StandsForRun, most_program}
 use Rattle.nf_top.specs.Words.{IsCommand}
-use Rattle.nf_top.proofs.CompleteFacts.{all-consumed, certdata-same, front-consumed, held-same, held-there, never-both, never-lacks, never-many, never-posed, some-same, table-short}
+use Rattle.nf_top.proofs.CompleteFacts.{all-consumed, data-same, front-consumed, has-set, held-same, held-there, never-both, never-lacks, never-many, never-posed, some-same, table-short}
 use Rattle.nf_top.proofs.PlainFacts.{arcs_table, cons_table, nodes_table}
 use Rattle.nf_top.proofs.WordFacts.{not-both, one-command}
 
@@ -44,48 +44,41 @@ one-run-names p q m n e h k = λ i. record {
 run-names-same : (i : Input) (problem : LinearProgram) (k : IsAccepted i problem) (n : SetNames) → NamesSets i Run n → n ≡ k.names
 run-names-same i problem k n h = one-run-names h.program k.program n k.names (run-program-same i problem k h.program h.reads) h.stands k.stands
 
-has-run-set : (held : Option Held) (p : SetNames) (sets : Sets) → AreHeld Run held p sets → (s : SetName) → Fetches Run s → IsHeldOrNone held (name_of p s) (bytes_of sets s)
-has-run-set held p sets h set.Arcdata f = h.arcdata
-has-run-set held p sets h set.Nodedata f = h.nodedata
-has-run-set held p sets h set.Condata f = h.condata
-has-run-set held p sets h set.Certdata f = cc f
-has-run-set held p sets h set.Conin f = absurd f
-has-run-set held p sets h set.Dualin f = absurd f
-has-run-set held p sets h set.Sessiondata f = absurd f
-has-run-set held p sets h set.Proc f = absurd f
-
 run-name-same : (i : Input) (problem : LinearProgram) (k : IsAccepted i problem) (n : SetNames) → NamesSets i Run n
-    → (s : SetName) → Fetches Run s → IsHeldOrNone i.held (name_of n s) (bytes_of k.sets s)
-run-name-same i problem k n h s f = rw (run-names-same i problem k n h) (has-run-set i.held k.names k.sets k.holds s f)
+    → (s : SetName) → IsHeldOrNone i.held (name_of n s) (bytes_of k.sets s)
+run-name-same i problem k n h s = rw (run-names-same i problem k n h) (has-set i.held k.names k.sets k.holds s)
 
 run-sets-same : (i : Input) (problem : LinearProgram) (k : IsAccepted i problem) (sets : Sets) → FetchesSets i Run sets
-    → (s : SetName) → Fetches Run s → bytes_of sets s ≡ bytes_of k.sets s
-run-sets-same i problem k sets h s f =
-    held-same k.library (name_of h.names s) _ _ (rw k.tells at (has-run-set i.held h.names sets h.held s f)) (rw k.tells at (run-name-same i problem k h.names h.named s f))
+    → (s : SetName) → bytes_of sets s ≡ bytes_of k.sets s
+run-sets-same i problem k sets h s =
+    held-same k.library (name_of h.names s) _ _ (rw k.tells at (has-set i.held h.names sets h.held s)) (rw k.tells at (run-name-same i problem k h.names h.named s))
 
 run-name-there : (i : Input) (problem : LinearProgram) (k : IsAccepted i problem) (n : SetNames) → NamesSets i Run n
-    → (s : SetName) → Fetches Run s → (name : List ℕ) → Some name ≡ name_of n s → (b : List ℕ) × HasName (Some k.library) name b × (bytes_of k.sets s ≡ Some b)
-run-name-there i problem k n h s f name is =
-    held-there (Some k.library) name (bytes_of k.sets s) (rw k.tells at (rw (sym is) at (run-name-same i problem k n h s f)))
+    → (s : SetName) (name : List ℕ) → Some name ≡ name_of n s → (b : List ℕ) × HasName (Some k.library) name b × (bytes_of k.sets s ≡ Some b)
+run-name-there i problem k n h s name is =
+    held-there (Some k.library) name (bytes_of k.sets s) (rw k.tells at (rw (sym is) at (run-name-same i problem k n h s)))
 
-has-run-table : (i : Input) (problem : LinearProgram) (k : IsAccepted i problem) (s : SetName) → Fetches Run s → (b : List ℕ) → bytes_of k.sets s ≡ Some b → (g : Grid) × IsTable b g
-has-run-table i problem k set.Arcdata f b e = let t = arcs_table k.program (data_of k.sets) k.posed.network k.posed.posed in (t.0, subst (λ v. IsTable v t.0) (cc e) t.1)
-has-run-table i problem k set.Nodedata f b e = nodes_table k.program (data_of k.sets) k.posed.network k.posed.posed b e
-has-run-table i problem k set.Condata f b e = cons_table k.program (data_of k.sets) k.posed.network k.posed.posed b e
-has-run-table i problem k set.Certdata f b e = cc f
-has-run-table i problem k set.Conin f b e = absurd f
-has-run-table i problem k set.Dualin f b e = absurd f
-has-run-table i problem k set.Sessiondata f b e = absurd f
-has-run-table i problem k set.Proc f b e = absurd f
+-- a set without a name has no bytes
+none-held : (m : Option Held) (n o : Option (List ℕ)) (b : List ℕ) → n ≡ None → IsHeldOrNone m n o → o ≡ Some b → ⊥
+none-held m None None b e h k = cc k
+none-held m None (Some d) b e h k = h
+none-held m (Some a) o b e h k = cc e
 
-run-data-same : (a b : Sets) → ((s : SetName) → Fetches Run s → bytes_of a s ≡ bytes_of b s) → data_of a ≡ data_of b
-run-data-same a b same = λ i. record { arcdata = certdata-same a.arcdata b.arcdata (same set.Arcdata tt) i; nodedata = same set.Nodedata tt i; condata = same set.Condata tt i }
+has-run-table : (i : Input) (problem : LinearProgram) (k : IsAccepted i problem) (s : SetName) (b : List ℕ) → bytes_of k.sets s ≡ Some b → (g : Grid) × IsTable b g
+has-run-table i problem k set.Arcdata b e = let t = arcs_table k.program (data_of k.sets) k.posed.network k.posed.posed in (t.0, subst (λ v. IsTable v t.0) (cc e) t.1)
+has-run-table i problem k set.Nodedata b e = nodes_table k.program (data_of k.sets) k.posed.network k.posed.posed b e
+has-run-table i problem k set.Condata b e = cons_table k.program (data_of k.sets) k.posed.network k.posed.posed b e
+has-run-table i problem k set.Certdata b e = absurd (none-held i.held k.names.certdata k.sets.certdata b k.stands.certdata k.holds.certdata e)
+has-run-table i problem k set.Conin b e = cc e
+has-run-table i problem k set.Dualin b e = cc e
+has-run-table i problem k set.Sessiondata b e = cc e
+has-run-table i problem k set.Proc b e = cc e
 
 run-never-refused : (i : Input) (problem : LinearProgram) (k : IsAccepted i problem) (sets : Sets) (f : FetchesSets i Run sets) (r : ProblemRefusal)
     → problem_of f.named.program (data_of sets) ≡ Err r → ⊥
 run-never-refused i problem k sets f r h =
     never-posed problem_of f.named.program k.program (data_of sets) (data_of k.sets) r k.posed.network
-    (run-program-same i problem k f.named.program f.named.reads) (run-data-same sets k.sets (run-sets-same i problem k sets f)) h k.posed.posed
+    (run-program-same i problem k f.named.program f.named.reads) (data-same sets k.sets (run-sets-same i problem k sets f)) h k.posed.posed
 
 -- the words are those of `run`
 is-run : (i : Input) (problem : LinearProgram) → IsAccepted i problem → (c : Command) → IsCommand c i.words → c ≡ Run
@@ -122,26 +115,23 @@ fetched-run i problem k c sets h = subst (λ d. FetchesSets i d sets) (is-run i 
 -- no refusal is met
 run-not-refused : (i : Input) (problem : LinearProgram) (k : IsAccepted i problem)
     → (Rose i.source_faults i.source_faults_after → ⊥) → (Rose i.fetch_faults i.fetch_faults_after → ⊥) → (r : Refusal) → Refuses i r → ⊥
-run-not-refused i problem k s l refusal.Usage h = h Run k.words
-run-not-refused i problem k s l (refusal.NoProgram fault) (c, words, text, taken, found, why) =
+run-not-refused i problem k s l refusal.Usage (other, none) = other Run k.words
+run-not-refused i problem k s l (refusal.NoProgram fault) (c, words, text, taken, found, why, all) =
     run-no-text i problem k text fault taken (subst (λ d. HasFault d text fault) (is-run i problem k c words) found) why
-run-not-refused i problem k s l refusal.NotStanding (c, p, reads, none) =
+run-not-refused i problem k s l refusal.NotStanding (c, p, reads, none, all) =
     let e = is-run i problem k c reads.words in
     run-not-taken i problem k p (subst (λ d. ReadsProgram i d p) e reads) (subst (λ d. IsStanding d p → ⊥) e none)
-run-not-refused i problem k s l refusal.ReadFault (c, words, inl rose) = s rose
-run-not-refused i problem k s l refusal.ReadFault (c, words, inr (n, set, name, here, named, before, is, rose)) = l rose
-run-not-refused i problem k s l (refusal.Absent name) (c, p, set, fetches, reads, before, is, lacks, rose) =
-    let here = subst (λ d. Fetches d set) (is-run i problem k c reads.reads.words) fetches in
-    let b = run-name-there i problem k p (named-run i problem k c p reads) set here name is in
+run-not-refused i problem k s l refusal.ReadFault (c, words, there, inl (rose, sound)) = s rose
+run-not-refused i problem k s l refusal.ReadFault (c, words, there, inr (n, set, name, named, before, is, rose)) = l rose
+run-not-refused i problem k s l (refusal.Absent name) (c, p, set, reads, before, is, lacks, rose, sound) =
+    let b = run-name-there i problem k p (named-run i problem k c p reads) set name is in
     never-lacks k.library name b.0 b.1 (rw k.tells at lacks)
-run-not-refused i problem k s l (refusal.TooLong set) (c, p, name, fetches, reads, before, is, many) =
-    let here = subst (λ d. Fetches d set) (is-run i problem k c reads.reads.words) fetches in
-    let b = run-name-there i problem k p (named-run i problem k c p reads) set here name is in
-    let t = has-run-table i problem k set here b.0 b.2 in
+run-not-refused i problem k s l (refusal.TooLong set) (c, p, name, reads, before, is, many, all) =
+    let b = run-name-there i problem k p (named-run i problem k c p reads) set name is in
+    let t = has-run-table i problem k set b.0 b.2 in
     never-many k.library name b.0 b.1 (table-short b.0 t.0 t.1) (rw k.tells at many)
-run-not-refused i problem k s l (refusal.NoTable set fault) (c, sets, bytes, fetches, fetched, before, is, e) =
-    let here = subst (λ d. Fetches d set) (is-run i problem k c fetched.named.reads.words) fetches in
-    let t = has-run-table i problem k set here bytes (sym (run-sets-same i problem k sets (fetched-run i problem k c sets fetched) set here) ∙ sym is) in
+run-not-refused i problem k s l (refusal.NoTable set fault) (c, sets, bytes, fetched, before, is, e) =
+    let t = has-run-table i problem k set bytes (sym (run-sets-same i problem k sets (fetched-run i problem k c sets fetched) set) ∙ sym is) in
     never-both table_read bytes bytes fault t.0 refl e t.1
 run-not-refused i problem k s l (refusal.NoRoles set fault) (c, sets, fetched, t, tables, e) = run-refused-none i problem k c sets fetched (OfRoles set fault) e
 run-not-refused i problem k s l (refusal.NoNetwork fault) (c, sets, fetched, t, tables, e) = run-refused-none i problem k c sets fetched (OfData fault) e

@@ -26,7 +26,7 @@ use Rattle.nf_run.specs.Verdicts as run
 use Rattle.nf_top.specs.declared.status.Status.TheVariants as status
 use Rattle.nf_top.specs.Headline.{IsProofOf, IsValid, RunIsExplained, StoresProof}
 use Rattle.nf_top.specs.Lines.{step_range_line}
-use Rattle.nf_top.specs.Outcome.{Call, Comes, Input, KeepsLibrary, RunsOn}
+use Rattle.nf_top.specs.Outcome.{Call, Comes, KeepsLibrary, RunsOn}
 use Rattle.nf_top.specs.Steps.{lent_name}
 use Rattle.nf_top.specs.Words.{IsCommand}
 use Rattle.nf_top.proofs.WordFacts.{not-both}

@@ -1,5 +1,5 @@
 -- What a call saw, from one step to the next, and the status of each refusal.
-use Rattle.std.proofs.Common.{Bool, true, false, if◌then◌else◌, Result, Ok, Err, IfErr, IfOk, IfSome, OnOk, MatchResult, ◌≡◌, ◌∙◌, ◌≤◌, ◌<◌, ◌⊎◌, ℕ, List, [], Option, None, Some, ap, append-nil, length, inl, inr, arith, refl, subst, subst₂, sym}
+use Rattle.std.proofs.Common.{Bool, true, false, if◌then◌else◌, Result, Ok, Err, IfErr, IfOk, IfSome, IsErrOf, OnOk, MatchResult, is_some, ◌≡◌, ◌∙◌, ◌<◌, ◌⊎◌, ℕ, List, [], Option, None, Some, ap, append-nil, length, inl, inr, refl, subst, subst₂, sym}
 use Rattle.std.specs.Borrow.{Bor}
 use Rattle.std.specs.Option.{option_copied}
 use Rattle.nf_model.specs.Program.{LinearProgram}
@@ -21,21 +21,24 @@ use Rattle.nf_program.specs.declared.program.SetName.TheVariants.{Arcdata, Conda
 use Rattle.nf_program.specs.declared.program.Program.{Program}
 use Rattle.nf_program.specs.declared.program.Command.{Command}
 use Rattle.nf_program.specs.declared.program.Command.TheVariants.{Run, Check}
-use Rattle.nf_top.specs.Data.{AreTables, Grids, IsProblemOf, IsTable, IsTableOrNone, Sets, data_of}
+use Rattle.nf_top.specs.Data.{AreTables, Grids, IsProblemOf, IsTableOrNone, Sets, data_of}
 use Rattle.nf_top.proofs.PlainFacts.{no-table, posed_by_tables, then_step, then_stop, too-many}
 use Rattle.nf_table.specs.Grid.{Grid}
 use Rattle.nf_top.specs.Standing.{SetNames}
-use Rattle.nf_io.specs.Held.{Held}
+use Rattle.nf_io.specs.Causes.{HasFetchCause, Rose}
+use Rattle.nf_io.specs.Held.{Held, HasTooMany, LacksName}
+use Rattle.nf_io.specs.declared.faults.FetchFault.{FetchFault}
+use Rattle.nf_io.specs.declared.faults.FetchFault.TheVariants as fetch
 use Rattle.nf_top.specs.declared.refusal.Refusal.{Refusal}
 use Rattle.nf_top.specs.declared.refusal.Refusal.TheVariants as refusal
 use Rattle.nf_top.specs.declared.refusal.Stop.{Stop}
 use Rattle.nf_top.specs.declared.refusal.Stop.TheVariants as stop
 use Rattle.nf_top.specs.Lines.{refusal_line}
-use Rattle.nf_top.specs.Outcome.{AllFetched, AreHeld, Call, Comes, FetchesSets, Input, IsHeld, IsHeldOrNone, KeepsLibrary, Lists, NoneMissed, ReadsCertificate, Refuses, RunsOn}
+use Rattle.nf_top.specs.Outcome.{AllFetched, AreHeld, AreHeldBefore, Call, Comes, FetchesSets, Input, IsHeld, IsHeldOrNone, KeepsLibrary, Lists, NamesSets, NoneMissed, PosesProblem, ReadsCertificate, Refuses, RunsOn, name_of}
 use Rattle.std.specs.Io.KnownBytes.{Appends, Consumes, IsAtEnd}
 use Rattle.nf_top.specs.Status.{refusal_status}
 use Rattle.nf_top.specs.Words.{IsCommand}
-use Rattle.nf_top.specs.Steps.{IsPosed, IsStopOf, SawFetches, SawLibrary, Stops, is_no_memory, stop_of_data, stop_of_roles, too_large}
+use Rattle.nf_top.specs.Steps.{IsPosed, IsStopOf, IsStopOfFetch, SawLibrary, Stops, is_no_memory, stop_of_data, stop_of_roles, too_large}
 
 -- nothing is appended where nothing was written
 pub appends_nothing : (o : Option (List ℕ)) → Appends o o []
@@ -55,38 +58,69 @@ runs-later i j program problem words left rest held fetched r = record {
   names = r.names;
   stands = r.stands;
   sets = r.sets;
-  held = subst (λ h. AreHeld Run h r.names r.sets) held r.held;
+  held = subst (λ h. AreHeld h r.names r.sets) held r.held;
   fetched = fetched;
   posed = r.posed;
 }
 
--- a later fetch is seen too
-pub saw-later : (i : Input) (holds held : Option Held) (before mid after : ℕ) (missed mids misses : List ℕ → ℕ) → SawFetches i holds before after missed misses
-    → held ≡ holds → before ≤ mid → ((q : List ℕ) → missed q ≤ mids q) → SawFetches i held mid after mids misses
-saw-later i holds held before mid after missed mids misses h e le les = record {
+-- what comes after fetches that returned bytes
+pub saw-later : (i : Input) (holds held : Option Held) (before mid after : ℕ) (missed mids misses : List ℕ → ℕ) → SawLibrary i holds before after missed misses
+    → held ≡ holds → NoneMissed before mid missed mids → SawLibrary i held mid after mids misses
+saw-later i holds held before mid after missed mids misses h e none = record {
   held = h.held ∙ sym e;
-  since = omega (arith, h.since);
+  since = h.since ∙ sym none.sound;
   until = h.until;
-  missed_since = λ q. omega (arith, h.missed_since q, les q);
+  missed_since = λ q. h.missed_since q ∙ sym (none.there q);
   missed_until = h.missed_until;
 }
 
--- all fetches are a part of the call
-pub saw-all : (i : Input) (holds : Option Held) (before after : ℕ) (missed misses : List ℕ → ℕ) → SawLibrary i holds before after missed misses → SawFetches i holds before after missed misses
-saw-all i holds before after missed misses h = record {
-  held = h.held;
-  since = omega (arith, h.since);
-  until = omega (arith, h.until);
-  missed_since = λ q. omega (arith, h.missed_since q);
-  missed_until = λ q. omega (arith, h.missed_until q);
-}
+-- a library that was not called reported nothing
+pub nothing-fetched : (faults : ℕ) (misses : List ℕ → ℕ) → NoneMissed faults faults misses misses
+nothing-fetched faults misses = record { sound = refl; there = λ q. refl }
 
--- and where each was answered by bytes, so was each of the call
+-- if each of these fetches returned bytes, so did each of the call
 pub saw-none-missed : (i : Input) (holds : Option Held) (before after : ℕ) (missed misses : List ℕ → ℕ) → SawLibrary i holds before after missed misses → NoneMissed before after missed misses → AllFetched i
 saw-none-missed i holds before after missed misses h none = record {
   sound = h.until ∙ none.sound ∙ sym h.since;
   there = λ q. h.missed_until q ∙ none.there q ∙ sym (h.missed_since q);
 }
+
+-- how a fetch ends the call
+module _ (i : Input) (c : Command) (n : SetNames) (s : SetName) (name : List ℕ) (holds : Option Held) (before after : ℕ) (missed misses : List ℕ → ℕ)
+    (saw : SawLibrary i holds before after missed misses) (named : NamesSets i c n) (prior : AreHeldBefore i.held n s) (is : Some name ≡ name_of n s) where
+  pub failed-refuses : Rose before after → ((q : List ℕ) → misses q ≡ missed q) → Refuses i refusal.ReadFault
+  failed-refuses rose there = (
+    c,
+    named.reads.words,
+    λ q. saw.missed_until q ∙ there q ∙ sym (saw.missed_since q),
+    inr (n, s, name, named, prior, is, subst₂ Rose (sym saw.since) (sym saw.until) rose),
+  )
+
+  pub absent-refuses : LacksName holds name → Rose (missed name) (misses name) → after ≡ before → Refuses i (refusal.Absent name)
+  absent-refuses lacks rose sound = (
+    c,
+    n,
+    s,
+    named,
+    prior,
+    is,
+    subst (λ h. LacksName h name) (sym saw.held) lacks,
+    subst₂ Rose (sym (saw.missed_since name)) (sym (saw.missed_until name)) rose,
+    saw.until ∙ sound ∙ sym saw.since,
+  )
+
+  pub long-refuses : HasTooMany holds name → NoneMissed before after missed misses → Refuses i (refusal.TooLong s)
+  long-refuses many none = (c, n, name, named, prior, is, subst (λ h. HasTooMany h name) (sym saw.held) many, saw-none-missed i holds before after missed misses saw none)
+
+  pub fetch-stops : {T : Type 0} (r : Result T FetchFault) (f : FetchFault) (end : Stop) → r ≡ Err f → IsStopOfFetch s name f end → HasFetchCause before after (missed name) (misses name) r
+      → (¬ IsErrOf r fetch.Absent → (q : List ℕ) → misses q ≡ missed q) → (¬ IsErrOf r fetch.Failed → after ≡ before)
+      → (IsErrOf r fetch.Absent → LacksName holds name) → (IsErrOf r fetch.TooLong → HasTooMany holds name) → Stops i end
+  fetch-stops r fetch.Failed end e k cause there sound lacks many = subst (Stops i) (sym k) (failed-refuses (cause.failed e) (there (λ h. cc (e, h))))
+  fetch-stops r fetch.Absent end e (inl k) cause there sound lacks many = subst (Stops i) (sym k) (absent-refuses (lacks e) (cause.absent e) (sound (λ h. cc (e, h))))
+  fetch-stops r fetch.Absent end e (inr k) cause there sound lacks many = subst (Stops i) (sym k) tt
+  fetch-stops r fetch.TooLong end e k cause there sound lacks many =
+      subst (Stops i) (sym k) (long-refuses (many e) (record { sound = sound (λ h. cc (e, h)); there = there (λ h. cc (e, h)) }))
+  fetch-stops r fetch.NoMemory end e k cause there sound lacks many = subst (Stops i) (sym k) tt
 
 -- no fetch of two parts failed or missed a name
 pub none-missed-then : (before mid after : ℕ) (missed mids misses : List ℕ → ℕ) → NoneMissed before mid missed mids → NoneMissed mid after mids misses → NoneMissed before after missed misses
@@ -106,37 +140,41 @@ both-cases (Ok x) h k f g = f x h
 both-cases (Err y) h k f g = g y k
 
 -- the sets that the call saw are held
-pub held-there : (i : Input) (c : Command) (held : Option Held) (n : SetNames) (s : Sets) → i.held ≡ held → AreHeld c held n s → AreHeld c i.held n s
-held-there i c held n s e h = rw e h
+pub held-there : (i : Input) (held : Option Held) (n : SetNames) (s : Sets) → i.held ≡ held → AreHeld held n s → AreHeld i.held n s
+held-there i held n s e h = rw e h
 
--- the tables of a run, which has none for CERTDATA
-pub run-tables : (s : Sets) (arcs : Grid) (nodes cons : Option Grid) → IsTable s.arcdata arcs → IsTableOrNone s.nodedata nodes → IsTableOrNone s.condata cons
-    → AreTables Run s (record { arcdata = arcs; nodedata = nodes; condata = cons; certdata = arcs })
-run-tables s arcs nodes cons h k l = record { arcdata = h; nodedata = k; condata = l; certdata = λ e. cc e }
+-- the table of CERTDATA is there if the program names it
+pub held-some : (held : Option Held) (n o : Option (List ℕ)) → IsHeldOrNone held n o → is_some n ≡ is_some o
+held-some held None None h = refl
+held-some held None (Some b) h = absurd h
+held-some held (Some a) None h = absurd h
+held-some held (Some a) (Some b) h = refl
+
+pub table-some : (o : Option (List ℕ)) (t : Option Grid) → IsTableOrNone o t → is_some o ≡ is_some t
+table-some None None h = refl
+table-some None (Some t) h = absurd h
+table-some (Some b) None h = absurd h
+table-some (Some b) (Some t) h = refl
 
 -- the problem that is posed is that of the program
-pub poses : (c : Command) (s : Sets) (t : Grids) (p q : Program) (problem : LinearProgram) → AreTables c s t → q ≡ p → IsPosed (problem_in p t.arcdata t.nodedata t.condata) problem → IsProblemOf q s problem
-poses c s t p q problem h e (n, due, is) =
-    record { network = n; posed = subst (λ r. problem_of r (data_of s) ≡ Ok n) (sym e) (posed_by_tables c s t p h ∙ due); is = is }
+pub poses : (s : Sets) (t : Grids) (p q : Program) (problem : LinearProgram) → AreTables s t → q ≡ p → IsPosed (problem_in p t.arcdata t.nodedata t.condata) problem → IsProblemOf q s problem
+poses s t p q problem h e (n, due, is) =
+    record { network = n; posed = subst (λ r. problem_of r (data_of s) ≡ Ok n) (sym e) (posed_by_tables s t p h ∙ due); is = is }
 
 -- and where it is refused, so is the call
-pub refuses : (i : Input) (c : Command) (s : Sets) (t : Grids) (p : Program) (f : FetchesSets i c s) → AreTables c s t → f.named.program ≡ p
+pub refuses : (i : Input) (c : Command) (s : Sets) (t : Grids) (p : Program) (f : FetchesSets i c s) → AreTables s t → f.named.program ≡ p
     → (stop : Stop) → IsStopOf (problem_in p t.arcdata t.nodedata t.condata) stop → Stops i stop
 refuses i c s t p f h e (stop.Refused r) (OfTable set fault, due, is) = absurd (no-table p t.arcdata t.nodedata t.condata set fault due)
 refuses i c s t p f h e (stop.Refused r) (OfRoles set fault, due, is) =
-    subst (Refuses i) (sym is) (c, s, f, t, h, subst (λ q. problem_of q (data_of s) ≡ Err (OfRoles set fault)) (sym e) (posed_by_tables c s t p h ∙ due))
+    subst (Refuses i) (sym is) (c, s, f, t, h, subst (λ q. problem_of q (data_of s) ≡ Err (OfRoles set fault)) (sym e) (posed_by_tables s t p h ∙ due))
 refuses i c s t p f h e (stop.Refused r) (OfData fault, due, is) =
-    subst (Refuses i) (sym is) (c, s, f, t, h, subst (λ q. problem_of q (data_of s) ≡ Err (OfData fault)) (sym e) (posed_by_tables c s t p h ∙ due))
+    subst (Refuses i) (sym is) (c, s, f, t, h, subst (λ q. problem_of q (data_of s) ≡ Err (OfData fault)) (sym e) (posed_by_tables s t p h ∙ due))
 refuses i c s t p f h e stop.NoMemory k = tt
 
 -- a certificate was read, of the tables of a check
-pub reads-of : (i : Input) (s : Sets) (t : Grids) (problem : LinearProgram) (certificate : Cert) (f : FetchesSets i Check s) → AreTables Check s t → IsProblemOf f.named.program s problem
-    → cert_read t.certdata (length problem.columns) (length problem.rows) ≡ Ok certificate → ReadsCertificate i problem certificate
-reads-of i s t problem certificate fetched tables posed claimed = record {
-  sets = s;
-  poses = record { fetches = fetched; posed = posed };
-  claimed = record { table = t.certdata; table_is = tables.certdata refl; claimed = claimed };
-}
+pub reads-of : (i : Input) (s : Sets) (t : Grid) (problem : LinearProgram) (certificate : Cert) → PosesProblem i Check s problem → IsTableOrNone s.certdata (Some t)
+    → cert_read t (length problem.columns) (length problem.rows) ≡ Ok certificate → ReadsCertificate i problem certificate
+reads-of i s t problem certificate posed table claimed = record { sets = s; poses = posed; claimed = record { table = t; table_is = table; claimed = claimed } }
 
 -- a refusal whose line was written has its status
 pub refused-comes : (c : Call) (r : Refusal) → Refuses c.input r → Lists c (refusal_line r) → KeepsLibrary c → Comes c (refusal_status r)

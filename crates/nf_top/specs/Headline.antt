@@ -100,7 +100,7 @@ pub record Claims (i : Input) (problem : LinearProgram) (certificate : Cert) : T
   pub library : Held
   pub tells : i.held ≡ Some library
   pub sets : Sets
-  pub holds : AreHeld Check i.held names sets
+  pub holds : AreHeld i.held names sets
   pub posed : IsProblemOf program sets problem
   pub claimed : IsCertificateOf sets.certdata problem certificate
 
@@ -122,7 +122,7 @@ pub record IsAccepted (i : Input) (problem : LinearProgram) : Type 0 where
   pub library : Held
   pub tells : i.held ≡ Some library
   pub sets : Sets
-  pub holds : AreHeld Run i.held names sets
+  pub holds : AreHeld i.held names sets
   pub posed : IsProblemOf program sets problem
 
 -- If nothing fails, no store either, an accepted program is run to its end, unless a number overflows 128 bits or memory

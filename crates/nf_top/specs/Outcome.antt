@@ -39,7 +39,7 @@ use Rattle.nf_run.specs.Runs.{IsCut, IsFront}
 use Rattle.nf_run.specs.Stops.{ListsAll, ListsPart, StopsAtStore}
 use Rattle.nf_program.specs.declared.program.SessionOptions.{SessionOptions}
 use Rattle.nf_program.specs.declared.program.Statement.{Statement}
-use Rattle.nf_top.specs.Data.{Fetches, Grids, Sets, AreTables, AreTablesBefore, IsCertificateOf, IsProblemOf, IsTable, bytes_of, data_of}
+use Rattle.nf_top.specs.Data.{Grids, Sets, AreTables, AreTablesBefore, IsCertificateOf, IsProblemOf, IsTableOrNone, bytes_of, data_of}
 use Rattle.nf_top.specs.ProblemOf.{OfRoles, OfData, problem_of}
 use Rattle.nf_top.specs.Lines.{accepted_lines, claim_line, in_own_words, refusal_line, step_range_line}
 use Rattle.nf_top.specs.Standing.{IsStanding, SetNames, StandsFor, StandsForRun, most_program}
@@ -115,18 +115,18 @@ pub record ReadsProgram (i : Input) (c : Command) (p : Program) : Type 0 where
   pub ended : IsAtEnd i.rest
   pub spelled : HasProgram c text p
 
--- The program that was read is one that the command takes, and names these data sets.
+-- The program that was read is one that the command accepts, and these are the names of the data sets that it fetches.
 pub record NamesSets (i : Input) (c : Command) (n : SetNames) : Type 0 where
   pub program : Program
   pub reads : ReadsProgram i c program
   pub stands : StandsFor c program n
 
--- The name of a data set in a program, where it has one.
+-- The name of a data set that is fetched, if it is.
 abbrev pub name_of : SetNames → SetName → Option (List ℕ)
 name_of n set.Arcdata = Some n.arcdata
 name_of n set.Nodedata = n.nodedata
 name_of n set.Condata = n.condata
-name_of n set.Certdata = Some n.certdata
+name_of n set.Certdata = n.certdata
 name_of n _ = None
 
 -- The library holds these bytes under this name, and they are not too many.
@@ -140,12 +140,12 @@ IsHeldOrNone held None (Some bytes) = ⊥
 IsHeldOrNone held (Some name) None = ⊥
 IsHeldOrNone held (Some name) (Some bytes) = IsHeld held name bytes
 
--- The library holds these bytes under the names of the sets that the command fetches.
-pub record AreHeld (c : Command) (held : Option Held) (n : SetNames) (s : Sets) : Type 0 where
+-- The library holds these bytes under the names of the sets that are fetched.
+pub record AreHeld (held : Option Held) (n : SetNames) (s : Sets) : Type 0 where
   pub arcdata : IsHeld held n.arcdata s.arcdata
   pub nodedata : IsHeldOrNone held n.nodedata s.nodedata
   pub condata : IsHeldOrNone held n.condata s.condata
-  pub certdata : c ≡ Check → IsHeld held n.certdata s.certdata
+  pub certdata : IsHeldOrNone held n.certdata s.certdata
 
 -- The library holds the sets before this one.
 abbrev pub AreHeldBefore : Option Held → SetNames → SetName → Type 0
@@ -160,7 +160,15 @@ pub record NoneMissed (before after : ℕ) (missed misses : List ℕ → ℕ) : 
   pub sound : after ≡ before
   pub there : (q : List ℕ) → misses q ≡ missed q
 
--- Each fetch of the call was answered by bytes.
+-- No fetch of the call failed, of no set.
+abbrev pub NoneFails : Input → Type 0
+NoneFails i = i.fetch_faults_after ≡ i.fetch_faults
+
+-- No fetch of the call missed a name, be it that of a set that the command does not look at.
+abbrev pub NoneIsMissed : Input → Type 0
+NoneIsMissed i = (q : List ℕ) → i.misses_after q ≡ i.misses q
+
+-- Each fetch of the call returned bytes.
 abbrev pub AllFetched : Input → Type 0
 AllFetched i = NoneMissed i.fetch_faults i.fetch_faults_after i.misses i.misses_after
 
@@ -169,7 +177,7 @@ AllFetched i = NoneMissed i.fetch_faults i.fetch_faults_after i.misses i.misses_
 pub record FetchesSets (i : Input) (c : Command) (s : Sets) : Type 0 where
   pub names : SetNames
   pub named : NamesSets i c names
-  pub held : AreHeld c i.held names s
+  pub held : AreHeld i.held names s
   pub fetched : AllFetched i
 
 -- The data sets were fetched, and stand for this problem.
@@ -183,13 +191,13 @@ pub record ReadsCertificate (i : Input) (problem : LinearProgram) (certificate :
   pub poses : PosesProblem i Check sets problem
   pub claimed : IsCertificateOf sets.certdata problem certificate
 
--- The program was read for `run`, which takes it, and its data sets stand for this problem.
+-- The program was read for `run`, which accepts it, and its data sets stand for this problem.
 pub record RunsOn (i : Input) (program : Program) (problem : LinearProgram) : Type 0 where
   pub reads : ReadsProgram i Run program
   pub names : SetNames
   pub stands : StandsForRun program names
   pub sets : Sets
-  pub held : AreHeld Run i.held names sets
+  pub held : AreHeld i.held names sets
   pub fetched : AllFetched i
   pub posed : IsProblemOf program sets problem
 
@@ -203,29 +211,30 @@ pub record Accepts (i : Input) (line : HaltLine) : Type 0 where
   pub valid : IsAnswer problem certificate (checked.Yes number)
   pub told : line ≡ claim_line problem.maximizes certificate number
 
--- The cause of each refusal, and what was met before it.
+-- The cause of each refusal, and what was met before it. But for a fetch that is the cause, none failed or missed a name: as
+-- far as the library reports, no other set was fetched.
 abbrev pub Refuses : Input → Refusal → Type 0
 -- the words are no command
-Refuses i refusal.Usage = (c : Command) → IsCommand c i.words → ⊥
+Refuses i refusal.Usage = ((c : Command) → IsCommand c i.words → ⊥) × AllFetched i
 -- the source gave a text with this first fault: all of its text, or one that is too long
-Refuses i (refusal.NoProgram fault) = (c : Command) × IsCommand c i.words × (text : List ℕ) × Consumes i.left i.rest text × HasFault c text fault × ((most_program < length text) ⊎ IsAtEnd i.rest)
--- a program was read that the command does not take yet
-Refuses i refusal.NotStanding = (c : Command) × (p : Program) × ReadsProgram i c p × (IsStanding c p → ⊥)
+Refuses i (refusal.NoProgram fault) = (c : Command) × IsCommand c i.words × (text : List ℕ) × Consumes i.left i.rest text × HasFault c text fault × ((most_program < length text) ⊎ IsAtEnd i.rest) × AllFetched i
+-- a program was read that the command does not accept yet
+Refuses i refusal.NotStanding = (c : Command) × (p : Program) × ReadsProgram i c p × (IsStanding c p → ⊥) × AllFetched i
 -- the count of the source's faults rose; or that of failed fetches, at a data set of a program that was read, and those before
 -- it are held
-Refuses i refusal.ReadFault = (c : Command) × IsCommand c i.words × (Rose i.source_faults i.source_faults_after ⊎ ((n : SetNames) × (s : SetName) × (name : List ℕ) × Fetches c s × NamesSets i c n × AreHeldBefore i.held n s × (Some name ≡ name_of n s) × Rose i.fetch_faults i.fetch_faults_after))
+Refuses i refusal.ReadFault = (c : Command) × IsCommand c i.words × NoneIsMissed i × ((Rose i.source_faults i.source_faults_after × NoneFails i) ⊎ ((n : SetNames) × (s : SetName) × (name : List ℕ) × NamesSets i c n × AreHeldBefore i.held n s × (Some name ≡ name_of n s) × Rose i.fetch_faults i.fetch_faults_after))
 -- the library lacks a data set of the program, and has those before it
-Refuses i (refusal.Absent name) = (c : Command) × (n : SetNames) × (s : SetName) × Fetches c s × NamesSets i c n × AreHeldBefore i.held n s × (Some name ≡ name_of n s) × LacksName i.held name × Rose (i.misses name) (i.misses_after name)
+Refuses i (refusal.Absent name) = (c : Command) × (n : SetNames) × (s : SetName) × NamesSets i c n × AreHeldBefore i.held n s × (Some name ≡ name_of n s) × LacksName i.held name × Rose (i.misses name) (i.misses_after name) × NoneFails i
 -- a data set of the program has too many bytes, and those before it are held
-Refuses i (refusal.TooLong s) = (c : Command) × (n : SetNames) × (name : List ℕ) × Fetches c s × NamesSets i c n × AreHeldBefore i.held n s × (Some name ≡ name_of n s) × HasTooMany i.held name
+Refuses i (refusal.TooLong s) = (c : Command) × (n : SetNames) × (name : List ℕ) × NamesSets i c n × AreHeldBefore i.held n s × (Some name ≡ name_of n s) × HasTooMany i.held name × AllFetched i
 -- this is the first fault of the first data set that is no table
-Refuses i (refusal.NoTable s fault) = (c : Command) × (sets : Sets) × (bytes : List ℕ) × Fetches c s × FetchesSets i c sets × AreTablesBefore sets s × (Some bytes ≡ bytes_of sets s) × (table_read bytes ≡ Err fault)
+Refuses i (refusal.NoTable s fault) = (c : Command) × (sets : Sets) × (bytes : List ℕ) × FetchesSets i c sets × AreTablesBefore sets s × (Some bytes ≡ bytes_of sets s) × (table_read bytes ≡ Err fault)
 -- all are tables, and this is the first fault of the columns of ARCDATA, NODEDATA and CONDATA
-Refuses i (refusal.NoRoles s fault) = (c : Command) × (sets : Sets) × (fetches : FetchesSets i c sets) × (t : Grids) × AreTables c sets t × (problem_of fetches.named.program (data_of sets) ≡ Err (OfRoles s fault))
+Refuses i (refusal.NoRoles s fault) = (c : Command) × (sets : Sets) × (fetches : FetchesSets i c sets) × (t : Grids) × AreTables sets t × (problem_of fetches.named.program (data_of sets) ≡ Err (OfRoles s fault))
 -- the columns have their roles, and this is the first fault of the data, or of the size of the problem
-Refuses i (refusal.NoNetwork fault) = (c : Command) × (sets : Sets) × (fetches : FetchesSets i c sets) × (t : Grids) × AreTables c sets t × (problem_of fetches.named.program (data_of sets) ≡ Err (OfData fault))
+Refuses i (refusal.NoNetwork fault) = (c : Command) × (sets : Sets) × (fetches : FetchesSets i c sets) × (t : Grids) × AreTables sets t × (problem_of fetches.named.program (data_of sets) ≡ Err (OfData fault))
 -- the problem is there, and this is the first fault of the certificate's table
-Refuses i (refusal.NoCertificate fault) = (sets : Sets) × (problem : LinearProgram) × PosesProblem i Check sets problem × (table : Grid) × IsTable sets.certdata table × (cert_read table (length problem.columns) (length problem.rows) ≡ Err fault)
+Refuses i (refusal.NoCertificate fault) = (sets : Sets) × (problem : LinearProgram) × PosesProblem i Check sets problem × (table : Grid) × IsTableOrNone sets.certdata (Some table) × (cert_read table (length problem.columns) (length problem.rows) ≡ Err fault)
 -- problem and certificate are there, and this is the first place where it is not valid
 Refuses i (refusal.NotValid told) = (problem : LinearProgram) × (certificate : Cert) × (why : Why) × ReadsCertificate i problem certificate × IsAnswer problem certificate (checked.No why) × (told ≡ in_own_words problem.maximizes why)
 -- problem and certificate are there, and this operation of their check passes 128 bits

@@ -1,9 +1,11 @@
 -- How a step of a call ends it: the clauses of the functions that `netflow` is made of rest on it.
-use Rattle.std.specs.Prelude.{◌≡◌, ◌≤◌, ℕ, Bool, true, false, List, Option, Some, None, Result, Ok, Err, if◌then◌else◌}
+use Rattle.std.specs.Prelude.{◌≡◌, ◌⊎◌, ℕ, Bool, true, false, List, Option, Some, None, Result, Ok, Err, if◌then◌else◌}
 use Rattle.std.specs.Borrow.{Bor}
 use Rattle.std.specs.declared.vec.Vec.{Vec}
 use Rattle.std.specs.declared.alloc.Global.{Global}
 use Rattle.nf_io.specs.Held.{Held}
+use Rattle.nf_io.specs.declared.faults.FetchFault.{FetchFault}
+use Rattle.nf_io.specs.declared.faults.FetchFault.TheVariants as fetch
 use Rattle.nf_program.specs.declared.program.StmtFault.{StmtFault}
 use Rattle.nf_reader.specs.Gives.{is_memory}
 use Rattle.nf_model.specs.Program.{LinearProgram}
@@ -37,10 +39,10 @@ bytes_in (Some bytes) = Some bytes.items
 
 -- The names of the code, the bytes that it holds, and its tables.
 abbrev pub names_of : NamesOfCode → SetNames
-names_of n = record { arcdata = n.arcdata.now; nodedata = lent_name n.nodedata; condata = lent_name n.condata; certdata = n.certdata.now }
+names_of n = record { arcdata = n.arcdata.now; nodedata = lent_name n.nodedata; condata = lent_name n.condata; certdata = lent_name n.certdata }
 
 abbrev pub sets_of : SetsOfCode → Sets
-sets_of s = record { arcdata = s.arcdata.items; nodedata = bytes_in s.nodedata; condata = bytes_in s.condata; certdata = s.certdata.items }
+sets_of s = record { arcdata = s.arcdata.items; nodedata = bytes_in s.nodedata; condata = bytes_in s.condata; certdata = bytes_in s.certdata }
 
 abbrev pub grids_of : Tables → Grids
 grids_of t = record { arcdata = t.arcdata; nodedata = t.nodedata; condata = t.condata; certdata = t.certdata }
@@ -83,19 +85,18 @@ abbrev pub IsStopOf : {A : Type 0} → Result A ProblemRefusal → Stop → Type
 IsStopOf due (stop.Refused r) = (f : ProblemRefusal) × (due ≡ Err f) × (r ≡ refusal_of f)
 IsStopOf due stop.NoMemory = Unit {0}
 
+-- A fetch that returned no bytes ends the call: its fault is told, or memory ran out.
+abbrev pub IsStopOfFetch : SetName → List ℕ → FetchFault → Stop → Type 0
+IsStopOfFetch s name fetch.Failed end = end ≡ stop.Refused refusal.ReadFault
+IsStopOfFetch s name fetch.Absent end = (end ≡ stop.Refused (refusal.Absent name)) ⊎ (end ≡ stop.NoMemory)
+IsStopOfFetch s name fetch.TooLong end = end ≡ stop.Refused (refusal.TooLong s)
+IsStopOfFetch s name fetch.NoMemory end = end ≡ stop.NoMemory
+
 -- A text that is no program ends the call: its fault is told, or memory ran out.
 abbrev pub stop_of : StmtFault → Stop
 stop_of f = if is_memory f.kind then stop.NoMemory else stop.Refused (refusal.NoProgram f)
 
--- The call saw these fetches: they are a part of it.
-pub record SawFetches (i : Input) (holds : Option Held) (before after : ℕ) (missed misses : List ℕ → ℕ) : Type 0 where
-  pub held : i.held ≡ holds
-  pub since : i.fetch_faults ≤ before
-  pub until : after ≤ i.fetch_faults_after
-  pub missed_since : (q : List ℕ) → i.misses q ≤ missed q
-  pub missed_until : (q : List ℕ) → misses q ≤ i.misses_after q
-
--- They are all fetches of the call.
+-- All that the library reported of faults and misses in this call, it reported in these fetches.
 pub record SawLibrary (i : Input) (holds : Option Held) (before after : ℕ) (missed misses : List ℕ → ℕ) : Type 0 where
   pub held : i.held ≡ holds
   pub since : i.fetch_faults ≡ before

@@ -1,13 +1,13 @@
 //! The check of a certificate.
-ghost use Rattle.std.specs.Prelude.{◌≡◌, ◌<◌, length, Ok, Err, IfOk, IfErr, IfSome, MatchResult};
+ghost use Rattle.std.specs.Prelude.{true, ◌≡◌, ◌<◌, length, is_some, Some, Ok, IfOk, IfErr, IfSome};
 ghost use Rattle.nf_frac.specs.Amounts.{IsAmount};
 ghost use Rattle.nf_sums.specs.Terms.{with_sign};
 ghost use Rattle.nf_cert.specs.Reading.{cert_read};
 ghost use Rattle.nf_prob.specs.Verdict.{HasLengths, IsAnswer};
-ghost use Rattle.nf_prob.specs.declared.cert.Cert.{Cert as Certificate};
 ghost use Rattle.nf_prob.specs.declared.cert.Checked.TheVariants.{Yes};
+ghost use Rattle.nf_program.specs.declared.program.Command.{Command};
 ghost use Rattle.nf_top.specs.Lines.{claim_line, in_own_words};
-ghost use Rattle.nf_top.specs.Data.{AreTables, Grids, IsTable, Sets as SetBytes};
+ghost use Rattle.nf_top.specs.Data.{AreTables, IsTableOrNone, Sets as SetBytes};
 ghost use Rattle.nf_top.specs.Outcome.{Accepts, FetchesSets, Input, PosesProblem, ReadsCertificate};
 ghost use Rattle.nf_top.specs.Steps.{Stops, grids_of};
 
@@ -17,21 +17,21 @@ use crate::sets::Tables;
 use nf_cert::{CertFault, read_cert};
 use nf_frac::{Frac, Steps};
 use nf_prob::{Cert, Checked, Problem, Why, verify};
-use nf_program::{Command, Program};
+use nf_program::Program;
 use nf_run::HaltLine;
 use nf_table::Table;
 use std::alloc::Global;
 use std::marker::Brand;
 use std::sync::ledger::{Blank, Ledger};
 
-// The certificate that a table claims for a problem. The table is let go.
-fn claim(alloc: Global, table: Table, problem: &Problem) -> Result<Cert, Stop>
-    ensures ok { IfOk result (λ c. cert_read table (length problem.now.columns) (length problem.now.rows) ≡ Ok c) }
+// The certificate that a table claims for a problem.
+fn claim(alloc: Global, table: &Table, problem: &Problem) -> Result<Cert, Stop>
+    ensures ok { IfOk result (λ c. cert_read table.now (length problem.now.columns) (length problem.now.rows) ≡ Ok c) }
     ensures lengths { IfOk result (HasLengths problem.now) }
     ensures stops { IfErr result (λ stop. (i : Input) (s : SetBytes) →
-        PosesProblem i Command.Check s problem.now → IsTable s.certdata table → Stops i stop) }
+        PosesProblem i Command.Check s problem.now → IsTableOrNone s.certdata (Some table.now) → Stops i stop) }
 {
-    match read_cert(alloc, &table, problem) {
+    match read_cert(alloc, table, problem) {
         Ok(certificate) => Ok(certificate),
         Err(CertFault::NoMemory) => Err(Stop::NoMemory),
         Err(fault) => Err(Stop::Refused(Refusal::NoCertificate(fault))),
@@ -104,26 +104,34 @@ fn in_own_words(problem: &Problem, why: Why) -> Why
     }
 }
 
-/// What the certificate that the tables claim proves, where it is accepted. Each table is let go once it is read.
-///
-/// It stops as `pose` does where ARCDATA, NODEDATA and CONDATA are no problem, then with `NoCertificate` where CERTDATA is no
-/// certificate of it, then with `NotValid` at the first place where that is not valid, or with `Range` where a number of
-/// the check passes 128 bits. The steps of the check are counted, and the count is let go.
-pub(crate) fn judge(alloc: Global, program: &Program, tables: Tables) -> Result<HaltLine, Stop>
-    requires demand { IfSome program.now.proc.demand IsAmount }
-    ensures ok { IfOk result (λ line. (i : Input) (s : SetBytes) (f : FetchesSets i Command.Check s) → f.named.program ≡ program.now →
-        AreTables Command.Check s (grids_of tables) → Accepts i line) }
-    ensures stops { IfErr result (λ stop. (i : Input) (s : SetBytes) (f : FetchesSets i Command.Check s) → f.named.program ≡ program.now →
-        AreTables Command.Check s (grids_of tables) → Stops i stop) }
+// What the certificate in a table proves for a problem, if it is accepted.
+fn judge_claim(alloc: Global, problem: &Problem, certdata: &Table) -> Result<HaltLine, Stop>
+    ensures ok { IfOk result (λ line. (i : Input) (s : SetBytes) →
+        PosesProblem i Command.Check s problem.now → IsTableOrNone s.certdata (Some certdata.now) → Accepts i line) }
+    ensures stops { IfErr result (λ stop. (i : Input) (s : SetBytes) →
+        PosesProblem i Command.Check s problem.now → IsTableOrNone s.certdata (Some certdata.now) → Stops i stop) }
 {
-    let Tables {
-        arcdata,
-        nodedata,
-        condata,
-        certdata,
-    } = tables;
-    let problem = pose(alloc, program, arcdata, nodedata, condata)?;
-    let certificate = claim(alloc, certdata, &problem)?;
-    let number = verdict(&problem, &certificate)?;
-    Ok(claim_line(&problem, &certificate, number))
+    let certificate = claim(alloc, certdata, problem)?;
+    let number = verdict(problem, &certificate)?;
+    Ok(claim_line(problem, &certificate, number))
+}
+
+/// What the certificate in the table of CERTDATA proves, if it is accepted.
+///
+/// It stops as `pose` does if ARCDATA, NODEDATA and CONDATA are no problem, then with `NoCertificate` if CERTDATA is no
+/// certificate of it, then with `NotValid` at the first place where that is not valid, or with `Range` if a number of the
+/// check overflows 128 bits. The steps of the check are counted, and the count is dropped.
+pub(crate) fn judge(alloc: Global, program: &Program, tables: &Tables) -> Result<HaltLine, Stop>
+    requires demand { IfSome program.now.proc.demand IsAmount }
+    requires certdata { is_some tables.now.certdata ≡ true }
+    ensures ok { IfOk result (λ line. (i : Input) (s : SetBytes) (f : FetchesSets i Command.Check s) → f.named.program ≡ program.now →
+        AreTables s (grids_of tables.now) → Accepts i line) }
+    ensures stops { IfErr result (λ stop. (i : Input) (s : SetBytes) (f : FetchesSets i Command.Check s) → f.named.program ≡ program.now →
+        AreTables s (grids_of tables.now) → Stops i stop) }
+{
+    let problem = pose(alloc, program, tables)?;
+    match &tables.certdata {
+        Some(certdata) => judge_claim(alloc, &problem, certdata),
+        None => unreachable!(),
+    }
 }

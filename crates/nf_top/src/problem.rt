@@ -11,6 +11,7 @@ ghost use Rattle.nf_top.specs.ProblemOf.{in_data, in_roles, in_size, layout, pro
 ghost use Rattle.nf_top.specs.Steps.{IsPosed, IsStopOf, stop_of_data, stop_of_roles, too_large};
 
 use crate::refusal::{Refusal, Stop};
+use crate::sets::Tables;
 use nf_cons::dense;
 use nf_cons_sparse::sparse;
 use nf_io::Text;
@@ -25,27 +26,20 @@ use std::alloc::Global;
 /// The most rows of a problem.
 const MOST_ROWS: u32 = 1000;
 
-/// The problem of a program and the tables of ARCDATA and, where they are there, of NODEDATA and CONDATA. The tables are
-/// let go.
+/// The problem of a program and the tables of ARCDATA and, if they are there, of NODEDATA and CONDATA.
 ///
 /// It stops with `NoRoles` at the first fault of the columns of ARCDATA, then of NODEDATA, then of CONDATA; then with
-/// `NoNetwork` at the first fault of the data in this order, or where the problem has too many rows.
-pub(crate) fn pose(
-    alloc: Global,
-    program: &Program,
-    arcs: Table,
-    nodes: Option<Table>,
-    cons: Option<Table>,
-) -> Result<Problem, Stop>
+/// `NoNetwork` at the first fault of the data in this order, or if the problem has too many rows.
+pub(crate) fn pose(alloc: Global, program: &Program, tables: &Tables) -> Result<Problem, Stop>
     requires demand { IfSome program.now.proc.demand IsAmount }
-    ensures ok { IfOk result (IsPosed (problem_in program.now arcs nodes cons)) }
-    ensures stops { IfErr result (IsStopOf (problem_in program.now arcs nodes cons)) }
+    ensures ok { IfOk result (IsPosed (problem_in program.now tables.now.arcdata tables.now.nodedata tables.now.condata)) }
+    ensures stops { IfErr result (IsStopOf (problem_in program.now tables.now.arcdata tables.now.nodedata tables.now.condata)) }
 {
-    let cons = cons.as_ref();
-    let roles = roles_in(alloc, program, SetName::Arcdata, SetKind::Arcs, &arcs, cons)?;
-    match nodes {
-        Some(nodes) => pose_both(alloc, program, &roles, &arcs, &nodes, cons),
-        None => pose_network(alloc, program, &roles, &arcs, None, None, cons),
+    let (arcs, cons) = (&tables.arcdata, tables.condata.as_ref());
+    let roles = roles_in(alloc, program, SetName::Arcdata, SetKind::Arcs, arcs, cons)?;
+    match &tables.nodedata {
+        Some(nodes) => pose_both(alloc, program, &roles, arcs, nodes, cons),
+        None => pose_network(alloc, program, &roles, arcs, None, None, cons),
     }
 }
 

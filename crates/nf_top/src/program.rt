@@ -3,7 +3,7 @@ ghost use Rattle.std.specs.Prelude.{◌≡◌, List, ℕ, IfOk, IfErr, IfSome, M
 ghost use Rattle.std.specs.Io.KnownBytes.{Consumes, IsAtEnd};
 ghost use Rattle.nf_program.specs.declared.program.Command.TheVariants.{Check, Run};
 ghost use Rattle.nf_program.specs.Grammar.{HasProgram};
-ghost use Rattle.nf_top.specs.Outcome.{Input};
+ghost use Rattle.nf_top.specs.Outcome.{AllFetched, Input};
 ghost use Rattle.nf_top.specs.Standing.{SetNames as Named, StandsForCheck, StandsForRun, asks_more, asks_path, asks_tables, is_queue};
 ghost use Rattle.std.specs.Str.{IsUtf8};
 ghost use Rattle.nf_top.specs.Steps.{Stops, lent_name, names_of, stop_of};
@@ -18,13 +18,13 @@ use nf_run::are_standing;
 use std::alloc::Global;
 use std::str;
 
-/// The names of the data sets of a program, as it says them.
+/// The names of the data sets that a command fetches for a program, as it says them. CERTDATA is of `check` only.
 #[derive(Clone, Copy)]
 pub(crate) struct SetNames<'a> {
     pub(crate) arcdata: &'a str,
     pub(crate) nodedata: Option<&'a str>,
     pub(crate) condata: Option<&'a str>,
-    pub(crate) certdata: &'a str,
+    pub(crate) certdata: Option<&'a str>,
 }
 
 // Why a text is no program, as it ends the call.
@@ -40,7 +40,7 @@ fn refused(fault: StmtFault) -> Stop
 /// The program that a text has under a command. It stops with `NoProgram` at the text's first fault.
 pub(crate) fn program_of(alloc: Global, text: &[u8], command: Command) -> Result<Program, Stop>
     ensures ok { IfOk result (λ p. HasProgram command text.now p) }
-    ensures stops { IfErr result (λ stop. (i : Input) → IsCommand command i.words → Consumes i.left i.rest text.now → IsAtEnd i.rest → Stops i stop) }
+    ensures stops { IfErr result (λ stop. (i : Input) → IsCommand command i.words → Consumes i.left i.rest text.now → IsAtEnd i.rest → AllFetched i → Stops i stop) }
 {
     match read_program(alloc, text, command) {
         Ok(program) => Ok(program),
@@ -62,7 +62,7 @@ pub(crate) fn text_of(name: &Option<Name>) -> Option<&str>
     }
 }
 
-/// The names of the data sets of a program of `check`, or None where `check` does not take the program.
+/// The names of the data sets of a program of `check`, with one for CERTDATA, or None if `check` does not accept the program.
 pub(crate) fn names_for_check(program: &Program) -> Option<SetNames<'_>>
     requires read { (text : List ℕ) × HasProgram Check text program.now }
     ensures { MatchOption result ((n : Named) → StandsForCheck program.now n → ⊥) (λ n. StandsForCheck program.now (names_of n)) }
@@ -72,7 +72,7 @@ pub(crate) fn names_for_check(program: &Program) -> Option<SetNames<'_>>
         return None;
     }
     let (arcdata, certdata) = (text_of(&p.arcdata), text_of(&p.certdata));
-    let (Some(arcdata), Some(certdata)) = (arcdata, certdata) else {
+    let (Some(arcdata), Some(_)) = (arcdata, certdata) else {
         return None;
     };
     Some(SetNames {
@@ -132,8 +132,7 @@ fn asks_more(o: &SessionOptions) -> bool
         || o.queuesize2 != 10
 }
 
-/// The names of the data sets of a program of `run`, without one for CERTDATA=, or None where `run` does not take the
-/// program.
+/// The names of the data sets of a program of `run`, without one for CERTDATA, or None if `run` does not accept the program.
 pub(crate) fn names_for_run(program: &Program) -> Option<SetNames<'_>>
     requires read { (text : List ℕ) × HasProgram Run text program.now }
     ensures { MatchOption result ((n : Named) → StandsForRun program.now n → ⊥) (λ n. StandsForRun program.now (names_of n)) }
@@ -152,6 +151,6 @@ pub(crate) fn names_for_run(program: &Program) -> Option<SetNames<'_>>
         arcdata,
         nodedata: text_of(&p.nodedata),
         condata: text_of(&p.condata),
-        certdata: "",
+        certdata: None,
     })
 }

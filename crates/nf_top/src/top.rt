@@ -1,5 +1,5 @@
 //! The whole call.
-ghost use Rattle.std.specs.Prelude.{true, ◌≡◌, ◌≤◌, ℕ, List, Option, IfOk, IfErr, IfSome, MatchResult, OnOk, map};
+ghost use Rattle.std.specs.Prelude.{true, ◌≡◌, ◌≤◌, ℕ, List, Option, is_some, IfOk, IfErr, IfSome, MatchResult, OnOk, map};
 ghost use Rattle.nf_frac.specs.Amounts.{IsAmount};
 ghost use Rattle.nf_io.specs.Held.{Held};
 ghost use Rattle.std.specs.Io.KnownBytes.{Consumes, IsAtEnd};
@@ -9,8 +9,8 @@ ghost use Rattle.nf_program.specs.declared.program.Command.TheVariants.{Check, R
 ghost use Rattle.nf_program.specs.Grammar.{HasProgram};
 ghost use Rattle.nf_top.specs.Data.{IsProblemOf, Sets as SetBytes};
 ghost use Rattle.nf_top.specs.Headline.{AcceptsTheValid, ClaimIsProved, RefusesNoProgram, RunIsExplained, RunsTheAccepted, StoresProof};
-ghost use Rattle.nf_top.specs.Outcome.{Accepts, AreHeld, Call, Comes, Input, IsDue, Lists, NamesSets, NoneMissed, ReadsProgram, RunsOn, call_of, call_with, input_of};
-ghost use Rattle.nf_top.specs.Steps.{SawLibrary, SawSource, Stops, names_of};
+ghost use Rattle.nf_top.specs.Outcome.{Accepts, AllFetched, AreHeld, Call, Comes, Input, IsDue, Lists, NamesSets, NoneMissed, ReadsProgram, RunsOn, call_of, call_with, input_of};
+ghost use Rattle.nf_top.specs.Steps.{SawLibrary, SawSource, Stops, lent_name, names_of};
 ghost use Rattle.nf_top.specs.Words.{IsCommand};
 
 use crate::check::judge;
@@ -19,7 +19,7 @@ use crate::problem::pose;
 use crate::program::{SetNames, names_for_check, names_for_run, program_of};
 use crate::refusal::{Refusal, Stop};
 use crate::run::run;
-use crate::sets::{fetch_sets, read_network, read_tables};
+use crate::sets::load_tables;
 use crate::status::Status;
 use crate::words::command_of;
 use nf_io::{
@@ -44,7 +44,7 @@ fn source_text<S: Source>(alloc: Global, program: &mut S) -> Result<Text, Stop>
     ensures taken { IfOk result (λ t. Consumes (S.left program.old) (S.left program.new) t) }
     ensures ended { IfOk result (λ _. IsAtEnd (S.left program.new)) }
     ensures stops { IfErr result (λ stop. (i : Input) (c : Commands) →
-        SawSource i (S.left program.old) (S.left program.new) (S.faults program.old) (S.faults program.new) → IsCommand c i.words → Stops i stop) }
+        SawSource i (S.left program.old) (S.left program.new) (S.faults program.old) (S.faults program.new) → IsCommand c i.words → AllFetched i → Stops i stop) }
 {
     match read_all(alloc, program, MOST_PROGRAM_BYTES) {
         Ok(text) => Ok(text),
@@ -65,13 +65,36 @@ fn source_program<S: Source>(
     ensures reads { IfOk result (λ p. (i : Input) →
         SawSource i (S.left source.old) (S.left source.new) (S.faults source.old) (S.faults source.new) → IsCommand command i.words → ReadsProgram i command p) }
     ensures stops { IfErr result (λ stop. (i : Input) →
-        SawSource i (S.left source.old) (S.left source.new) (S.faults source.old) (S.faults source.new) → IsCommand command i.words → Stops i stop) }
+        SawSource i (S.left source.old) (S.left source.new) (S.faults source.old) (S.faults source.new) → IsCommand command i.words → AllFetched i → Stops i stop) }
 {
     let text = source_text(alloc, source)?;
     program_of(alloc, text.bytes(), command)
 }
 
-// What a check answers: what the certificate that is accepted claims, or why it stops.
+// What the certificate in the data sets of a program of `check` claims, if it is accepted.
+fn judge_sets<L: Library>(
+    alloc: Global,
+    program: &Program,
+    names: SetNames<'_>,
+    library: &mut L,
+) -> Result<HaltLine, Stop>
+    requires demand { IfSome program.now.proc.demand IsAmount }
+    requires certdata { is_some (lent_name names.certdata) ≡ true }
+    ensures held { L.held library.new ≡ L.held library.old }
+    ensures stores { L.store_faults library.new ≡ L.store_faults library.old }
+    ensures library_calm { L.quiet_fetches library.old ≡ true → L.fetch_faults library.new ≡ L.fetch_faults library.old }
+    ensures ok { IfOk result (λ line. (i : Input) →
+        SawLibrary i (L.held library.old) (L.fetch_faults library.old) (L.fetch_faults library.new) (L.misses library.old) (L.misses library.new) →
+        (n : NamesSets i Check (names_of names.entry)) → n.program ≡ program.now → Accepts i line) }
+    ensures stops { IfErr result (λ stop. (i : Input) →
+        SawLibrary i (L.held library.old) (L.fetch_faults library.old) (L.fetch_faults library.new) (L.misses library.old) (L.misses library.new) →
+        (n : NamesSets i Check (names_of names.entry)) → n.program ≡ program.now → Stops i stop) }
+{
+    let tables = load_tables(alloc, names, library)?;
+    judge(alloc, program, &tables)
+}
+
+// What `check` returns: what the certificate that is accepted claims, or why it stops.
 fn check_answer<S: Source, L: Library>(
     alloc: Global,
     words: &[String],
@@ -90,9 +113,7 @@ fn check_answer<S: Source, L: Library>(
     let Some(names) = names_for_check(&program) else {
         return Err(Stop::Refused(Refusal::NotStanding));
     };
-    let sets = fetch_sets(alloc, Command::Check, names, library)?;
-    let tables = read_tables(alloc, sets)?;
-    judge(alloc, &program, tables)
+    judge_sets(alloc, &program, names, library)
 }
 
 // A program and the problem that it is run on.
@@ -115,14 +136,13 @@ fn load_problem<L: Library>(
     ensures quiet_stores { L.quiet_stores library.new ≡ L.quiet_stores library.old }
     ensures library_calm { L.quiet_fetches library.old ≡ true → L.fetch_faults library.new ≡ L.fetch_faults library.old }
     ensures all { OnOk result (NoneMissed (L.fetch_faults library.old) (L.fetch_faults library.new) (L.misses library.old) (L.misses library.new)) }
-    ensures posed { IfOk result (λ p. (s : SetBytes) × AreHeld Run (L.held library.old) (names_of names.entry) s × IsProblemOf program.now s p) }
+    ensures posed { IfOk result (λ p. (s : SetBytes) × AreHeld (L.held library.old) (names_of names.entry) s × IsProblemOf program.now s p) }
     ensures stops { IfErr result (λ stop. (i : Input) →
         SawLibrary i (L.held library.old) (L.fetch_faults library.old) (L.fetch_faults library.new) (L.misses library.old) (L.misses library.new) →
         (n : NamesSets i Run (names_of names.entry)) → n.program ≡ program.now → Stops i stop) }
 {
-    let sets = fetch_sets(alloc, Command::Run, names, library)?;
-    let (arcs, nodes, cons) = read_network(alloc, sets)?;
-    pose(alloc, program, arcs, nodes, cons)
+    let tables = load_tables(alloc, names, library)?;
+    pose(alloc, program, &tables)
 }
 
 // What a run is of, or why it stops before the first statement.

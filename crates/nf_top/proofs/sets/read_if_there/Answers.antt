@@ -3,4 +3,4 @@ use Rattle.nf_top.specs.Steps.{bytes_in}
 use Rattle.nf_top.proofs.sets.read_if_there.Goals as goal
 
 pub returns-in-Err-clause-stops : goal.returns-in-Err-clause-stops
-returns-in-Err-clause-stops c = λ i d s here fetched before is. c.in-Err.ensures.stops i d s here fetched before (ap bytes_in (sym c.in-Some.is) ∙ is)
+returns-in-Err-clause-stops c = λ i d s fetched before is. c.in-Err.ensures.stops i d s fetched before (ap bytes_in (sym c.in-Some.is) ∙ is)

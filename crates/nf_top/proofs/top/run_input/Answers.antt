@@ -2,6 +2,7 @@ use Rattle.std.proofs.Common.{refl}
 use Rattle.std.proofs.lemmas.Result.{err_from_is_err_and}
 use Rattle.nf_program.specs.declared.program.Command.TheVariants.{Run}
 use Rattle.nf_top.specs.Steps.{names_of}
+use Rattle.nf_top.proofs.StopFacts.{nothing-fetched}
 use Rattle.nf_writer.proofs.Written.{amounts_are_in_range}
 use Rattle.nf_top.proofs.top.run_input.Goals as goal
 
@@ -11,7 +12,7 @@ load_problem-requires g c = let has = c.in_ok-program.ensures.read in record { d
 pub returns-in_err-program-clause-input : goal.returns-in_err-program-clause-input
 returns-in_err-program-clause-input g c =
     let p = err_from_is_err_and c.from_residual.result c.from_residual.ensures.1 in
-    rw (p.1, p.2) (c.in_err-program.ensures.stops _ (record { left = refl; rest = refl; faults = refl; faults_after = refl }) c.requires.command)
+    rw (p.1, p.2) (c.in_err-program.ensures.stops _ (record { left = refl; rest = refl; faults = refl; faults_after = refl }) c.requires.command (nothing-fetched _ _))
 
 pub returns-in_default-clause-input : goal.returns-in_default-clause-input
 returns-in_default-clause-input g c = (
@@ -19,6 +20,7 @@ returns-in_default-clause-input g c = (
   c.in_ok-program.program,
   c.in_ok-program.ensures.reads _ (record { left = refl; rest = refl; faults = refl; faults_after = refl }) c.requires.command,
   λ h. c.in_default.ensures h.0 h.1,
+  nothing-fetched _ _,
 )
 
 pub returns-in_err-problem-clause-input : goal.returns-in_err-problem-clause-input
