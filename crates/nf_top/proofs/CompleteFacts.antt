@@ -24,7 +24,8 @@ use Rattle.nf_top.specs.declared.refusal.Refusal.TheVariants as refusal
 use Rattle.nf_top.specs.declared.status.Status.{Status}
 use Rattle.nf_top.specs.declared.status.Status.TheVariants as status
 use Rattle.nf_top.specs.Data.{Sets, IsTable, IsTableOrNone, bytes_of, data_of}
-use Rattle.nf_top.specs.Headline.{AcceptsTheValid, ClaimIsProved, Claims, IsValid, Proves}
+use Rattle.nf_top.specs.Headline.{AcceptsTheValid, ClaimIsProved, Claims, Proves}
+use Rattle.nf_certify.specs.Certificates.{IsValid}
 use Rattle.nf_top.specs.Lines.{accepted_lines}
 use Rattle.nf_program.specs.declared.program.Command.{Command}
 use Rattle.nf_program.specs.declared.program.Command.TheVariants.{Run, Check, Again, Export}

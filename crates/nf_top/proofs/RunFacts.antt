@@ -24,7 +24,8 @@ use Rattle.nf_run.specs.Runs.{Event, IsCut}
 use Rattle.nf_run.specs.Stops.{ListsAll, ListsFront, ListsPart, StopsAtStore, StopsWith}
 use Rattle.nf_run.specs.Verdicts as run
 use Rattle.nf_top.specs.declared.status.Status.TheVariants as status
-use Rattle.nf_top.specs.Headline.{IsProofOf, IsValid, RunIsExplained, StoresProof}
+use Rattle.nf_top.specs.Headline.{IsProofOf, RunIsExplained, StoresProof}
+use Rattle.nf_certify.specs.Certificates.{IsValid}
 use Rattle.nf_top.specs.Lines.{step_range_line}
 use Rattle.nf_top.specs.Outcome.{Call, Comes, KeepsLibrary, RunsOn}
 use Rattle.nf_top.specs.Steps.{lent_name}

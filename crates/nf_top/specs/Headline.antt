@@ -10,9 +10,9 @@ use Rattle.nf_program.specs.declared.program.StmtFault.{StmtFault}
 use Rattle.nf_program.specs.Grammar.{HasProgram}
 use Rattle.nf_reader.specs.Faults.{HasFault}
 use Rattle.nf_model.specs.Program.{LinearProgram, IsBest, cost_of}
-use Rattle.nf_model.specs.Certificate.{IsValidBest}
-use Rattle.nf_model.specs.Farkas.{HasNoFeasible, IsGap, IsValidFarkas}
-use Rattle.nf_model.specs.Ray.{HasNoLeastCost, IsValidRay}
+use Rattle.nf_model.specs.Farkas.{HasNoFeasible, IsGap}
+use Rattle.nf_model.specs.Ray.{HasNoLeastCost}
+use Rattle.nf_certify.specs.Certificates.{IsValid}
 use Rattle.nf_run.specs.declared.line.HaltLine.{HaltLine}
 use Rattle.nf_run.specs.Endings.{IsSavedAs, Stores}
 use Rattle.nf_run.specs.Stops.{IsListing}
@@ -43,12 +43,6 @@ pub record ClaimIsProved (c : Call) : Type 0 where
   pub number : ℚ
   pub proves : Proves problem certificate number
   pub listed : Lists c (accepted_lines (claim_line problem.maximizes certificate number))
-
--- A certificate is valid.
-abbrev pub IsValid : LinearProgram → Cert → Type 0
-IsValid p (cert.Best flows duals) = IsValidBest p flows duals
-IsValid p (cert.Farkas duals) = IsValidFarkas p duals
-IsValid p (cert.Ray flows ray) = IsValidRay p flows ray
 
 -- A run is explained: the data sets of the program stand for this problem, and the listing is that of a run of the
 -- program on it, statement by statement. Each line is what it says, and each verdict comes with a valid certificate:
