@@ -11,6 +11,9 @@ const CERTIFICATE: &str =
 
 const SOLVE: &str = "proc netflow arcdata=arcs nodedata=nodes certout=k; run;";
 
+// CERTDATA is not in the library.
+const SOLVE_ONLY: &str = "proc netflow arcdata=arcs nodedata=nodes certdata=lost certout=k; run;";
+
 const JUDGE: &str = "proc netflow arcdata=arcs nodedata=nodes certdata=k;";
 
 const LISTING: &str =
@@ -34,12 +37,14 @@ const NONE: Failing = Failing {
     store: 0,
 };
 
-/// What a call gave out: its status, its listing, and what the library then holds under `k`.
+/// What a call gave out: its status, its listing, what the library then holds under `k`, and whether it holds the arcs and
+/// nodes as they were.
 #[derive(Drop)]
 struct Outcome {
     status: Status,
     listing: Vec<u8>,
     stored: Option<Vec<u8>>,
+    others_stay: bool,
 }
 
 // The outcome of one word and a program, over these arcs, the nodes and, where it is given, a certificate.
@@ -73,10 +78,13 @@ fn call(
         Some(bytes) => Some(Vec::from_slice(alloc, bytes)?),
         None => None,
     };
+    let others_stay = library.get("arcs") == Some(arcs.as_bytes())
+        && library.get("nodes") == Some(NODES.as_bytes());
     Ok(Outcome {
         status,
         listing: Vec::from_slice(alloc, listing.bytes())?,
         stored,
+        others_stay,
     })
 }
 
@@ -143,5 +151,34 @@ fn reports_a_write_that_fails(rt: HostRuntime) -> Result<(), Fail> {
         assert_eq!(rt; got.listing.as_slice(), listing.as_bytes());
         assert_eq!(rt; got.stored.is_some(), stores);
     }
+    Ok(())
+}
+
+#[test]
+fn fetches_no_certificate_to_run(rt: HostRuntime) -> Result<(), Fail> {
+    // The arcs and the nodes are the first two fetches; a third would fail.
+    let failing = Failing { fetch: 3, ..NONE };
+    let got = call(&rt, "run", SOLVE_ONLY, ARCS, None, failing)?;
+    assert_eq!(rt; got.status, Status::Finished);
+    assert_eq!(rt; got.listing.as_slice(), LISTING.as_bytes());
+    Ok(())
+}
+
+#[test]
+fn changes_no_other_set(rt: HostRuntime) -> Result<(), Fail> {
+    let faults = [
+        (Failing { put: 1, ..NONE }, "old"),
+        (Failing { put: 2, ..NONE }, CERTIFICATE),
+        (Failing { fetch: 2, ..NONE }, "old"),
+        (Failing { take: 1, ..NONE }, "old"),
+    ];
+    for (failing, stored) in faults {
+        let got = call(&rt, "run", SOLVE, ARCS, Some("old"), failing)?;
+        assert_eq!(rt; got.stored.as_deref(), Some(stored.as_bytes()));
+        assert_eq!(rt; got.others_stay, true);
+    }
+    let failing = Failing { store: 1, ..NONE };
+    let got = call(&rt, "run", SOLVE, ARCS, Some("old"), failing)?;
+    assert_eq!(rt; got.others_stay, true);
     Ok(())
 }
