@@ -1,5 +1,6 @@
 #!/usr/bin/env python3
-"""What the built program stores in its folder: many runs at once, names that are taken, and modes of files.
+"""What the built program stores in its folder: runs at once, runs that are killed, names that are taken, links, stores that
+fail, and modes of files.
 
     python3 tests/stores.py --netflow crates/netflow/out/netflow
 
@@ -7,10 +8,14 @@ Each case runs in a folder of its own. A store writes a file of its own and rena
 name whatever else happens, and nothing else stays.
 """
 import os
+import random
+import resource
+import signal
 import stat
 import subprocess
 import sys
 import tempfile
+import time
 
 sys.dont_write_bytecode = True
 from cases import Cases, arguments, write_files  # noqa: E402
@@ -20,6 +25,10 @@ FILES = {"arcs": b"_FROM_,_TO_,_COST_,_CAPAC_\na,b,2,10\n", "nodes": b"_NODE_,_S
 LISTING = "OPTIMAL\nTOTAL COST 10\nSTAGE 1 PIVOTS 1\nSTAGE 2 PIVOTS 0\nSAVED CERTOUT k ROWS 4\n"
 STORED = b"_ITEM_,_NUMBER_,_VALUE_\nVERDICT,1,OPTIMAL\nCOL,1,5\nROW,1,0\nROW,2,-2\n"
 AT_ONCE = 60
+PAIRS = 20
+KILLED = 60
+# the program tries as many names for its new file
+MOST_PARTS = 10_000
 
 
 def contents(folder):
@@ -46,21 +55,90 @@ def run_in(t, folder):
     return t.run(folder, ["run"], PROGRAM)
 
 
+def start(t, folder, **more):
+    """A run that waits for its program."""
+    return subprocess.Popen([*t.command, "run"], stdin=subprocess.PIPE, stdout=subprocess.PIPE, stderr=subprocess.PIPE, cwd=folder, **more)
+
+
+def give(run, program):
+    run.stdin.write(program)
+    run.stdin.close()
+
+
+def end(run):
+    """Status, listing and standard error of a run that has its program."""
+    listing, error = run.stdout.read().decode(), run.stderr.read().decode()
+    run.stdout.close()
+    run.stderr.close()
+    return run.wait(), listing, error
+
+
 def many_at_once(t):
     """Each of many runs at once that store one set ends well, and the file is whole."""
     with tempfile.TemporaryDirectory() as folder:
         write_files(folder, FILES)
-        runs = [subprocess.Popen([*t.command, "run"], stdin=subprocess.PIPE, stdout=subprocess.PIPE, stderr=subprocess.PIPE, cwd=folder) for _ in range(AT_ONCE)]
+        runs = [start(t, folder) for _ in range(AT_ONCE)]
         for run in runs:
-            run.stdin.write(PROGRAM)
-            run.stdin.close()
+            give(run, PROGRAM)
         for number, run in enumerate(runs, 1):
-            listing, error = run.stdout.read().decode(), run.stderr.read().decode()
-            t.expect("run %d of %d at once" % (number, AT_ONCE), (run.wait(), listing, error), 0, LISTING)
-            run.stdout.close()
-            run.stderr.close()
+            t.expect("run %d of %d at once" % (number, AT_ONCE), end(run), 0, LISTING)
         found = contents(folder)
         t.count(found == due(), "the folder after %d runs at once" % AT_ONCE, found, "the data and one whole file")
+
+
+def two_at_once(t):
+    """Two runs at once that store one set from different data: the file is that of one of them, whole."""
+    other = PROGRAM.replace(b"arcdata=arcs", b"arcdata=dear")
+    dear, listing = FILES["arcs"].replace(b",2,", b",3,"), LISTING.replace("10", "15")
+    stored = STORED.replace(b"-2", b"-3")
+    for number in range(1, PAIRS + 1):
+        with tempfile.TemporaryDirectory() as folder:
+            write_files(folder, {**FILES, "dear": dear})
+            one, two = start(t, folder), start(t, folder)
+            give(one, PROGRAM)
+            give(two, other)
+            t.expect("the first of pair %d" % number, end(one), 0, LISTING)
+            t.expect("the second of pair %d" % number, end(two), 0, listing)
+            found = contents(folder)
+            wanted = [due(**{"dear.csv": dear}), due(**{"dear.csv": dear, "k.csv": stored})]
+            t.count(found in wanted, "the folder after pair %d" % number, found, "the data and the file of one of them")
+
+
+def killed(t):
+    """A run that is killed leaves the old bytes or the new ones; what it began with a name of its own costs no later run."""
+    with tempfile.TemporaryDirectory() as folder:
+        write_files(folder, {**FILES, "k": b"old"})
+        begin = time.perf_counter()
+        t.expect("a run before the kills", run_in(t, folder), 0, LISTING)
+        seconds, chance = time.perf_counter() - begin, random.Random(1)
+        for number in range(1, KILLED + 1):
+            write_files(folder, {"k": b"old"})
+            run = start(t, folder)
+            give(run, PROGRAM)
+            time.sleep(chance.random() * seconds)
+            run.kill()
+            end(run)
+            found = contents(folder)
+            begun = {name for name in found if name.startswith("k.csv.part")}
+            whole = found["k.csv"] in (b"old", STORED) and set(found) - begun == {"arcs.csv", "nodes.csv", "k.csv"}
+            t.count(whole, "the folder after kill %d" % number, found, "the old bytes or the new ones")
+        before = {name: content for name, content in contents(folder).items() if name.startswith("k.csv.part")}
+        t.expect("a run after the kills", run_in(t, folder), 0, LISTING)
+        t.count(contents(folder) == due(**before), "the folder after the kills", contents(folder), "the new bytes, and what was begun as it was")
+
+
+def stopped(t):
+    """A run that is stopped while it waits for its program, and goes on, reads all of it."""
+    with tempfile.TemporaryDirectory() as folder:
+        write_files(folder, FILES)
+        run = start(t, folder)
+        for part in (PROGRAM[:20], PROGRAM[20:]):
+            run.stdin.write(part)
+            run.stdin.flush()
+            run.send_signal(signal.SIGSTOP)
+            run.send_signal(signal.SIGCONT)
+        run.stdin.close()
+        t.expect("a run that was stopped twice", end(run), 0, LISTING)
 
 
 def taken_names(t):
@@ -80,15 +158,61 @@ def taken_names(t):
         t.count(found == want, "the folder with names that are taken", found, "all as it was, and the certificate")
 
 
-def failed_store(t):
-    """A store that cannot put its file in place leaves none of its own."""
+def links(t):
+    """A link under the name itself gives way to a file; what it leads to stays as it was."""
+    for leads_to in ("precious", "nowhere"):
+        with tempfile.TemporaryDirectory() as folder:
+            write_files(folder, FILES)
+            with open(os.path.join(folder, "precious"), "wb") as f:
+                f.write(b"precious")
+            os.symlink(leads_to, os.path.join(folder, "k.csv"))
+            t.expect("a link to %s under the name" % leads_to, run_in(t, folder), 0, LISTING)
+            found = contents(folder)
+            t.count(found == due(precious=b"precious"), "the folder with a link to %s" % leads_to, found, "the certificate, and what the link led to")
+
+
+def failed_stores(t):
+    """A store that fails leaves the old file, and none of its own."""
+    failed = LISTING[:LISTING.index("SAVED")]
     with tempfile.TemporaryDirectory() as folder:
         write_files(folder, FILES)
         os.mkdir(os.path.join(folder, "k.csv"))
-        got = run_in(t, folder)
-        t.expect("a folder stands under the name", got, 6, LISTING[:LISTING.index("SAVED")])
+        t.expect("a folder stands under the name", run_in(t, folder), 6, failed)
         found = contents(folder)
-        t.count(found == due(**{"k.csv": None}), "the folder after a store that failed", found, "as it was")
+        t.count(found == due(**{"k.csv": None}), "the folder with a folder under the name", found, "as it was")
+    for old in (None, b"old"):
+        with tempfile.TemporaryDirectory() as folder:
+            write_files(folder, {**FILES, "k": old})
+            before = contents(folder)
+            # the signal is ignored here, so a write beyond the limit fails with an error
+            run = start(t, folder, restore_signals=False, preexec_fn=lambda: resource.setrlimit(resource.RLIMIT_FSIZE, (20, 20)))
+            give(run, PROGRAM)
+            t.expect("the file has no room after 20 bytes", end(run), 6, failed)
+            t.count(contents(folder) == before, "the folder after a write that failed", contents(folder), "as it was")
+    with tempfile.TemporaryDirectory() as folder:
+        write_files(folder, {**FILES, "k": b"old"})
+        for number in range(1, MOST_PARTS + 1):
+            os.symlink("nowhere", os.path.join(folder, "k.csv.part%d" % number))
+        before = contents(folder)
+        t.expect("each name for a new file is taken", run_in(t, folder), 6, failed)
+        t.count(contents(folder) == before, "the folder with each name taken", "another", "as it was")
+    if os.geteuid():
+        with tempfile.TemporaryDirectory() as folder:
+            write_files(folder, {**FILES, "k": b"old"})
+            before = contents(folder)
+            os.chmod(folder, 0o555)
+            t.expect("no file may be made in the folder", run_in(t, folder), 6, failed)
+            os.chmod(folder, 0o755)
+            t.count(contents(folder) == before, "the folder in which no file may be made", contents(folder), "as it was")
+
+
+def failed_listing(t):
+    """A listing that cannot be written ends the run before the store."""
+    with tempfile.TemporaryDirectory() as folder, open("/dev/full", "wb") as full:
+        write_files(folder, {**FILES, "k": b"old"})
+        before = contents(folder)
+        t.expect("the listing has no room", t.run(folder, ["run"], PROGRAM, out=full), 6, "")
+        t.count(contents(folder) == before, "the folder after a listing that failed", contents(folder), "as it was")
 
 
 def modes(t):
@@ -105,7 +229,7 @@ def modes(t):
 
 def main():
     t = Cases(arguments("What the built program stores.").parse_args().netflow)
-    for part in (many_at_once, taken_names, failed_store, modes):
+    for part in (many_at_once, two_at_once, killed, stopped, taken_names, links, failed_stores, failed_listing, modes):
         part(t)
     return t.end()
 
