@@ -1,0 +1,4 @@
+pub mod TextFacts
+pub mod HandFacts
+pub mod NameFacts
+pub mod RowNameFacts

@@ -1,0 +1,5 @@
+pub mod Tables
+pub mod Words
+pub mod Arcs
+pub mod Rows
+pub mod Output
