@@ -1,5 +1,5 @@
 -- The network with the constraints of sparse CONDATA is the one that is due.
-use Rattle.std.proofs.Common.{◌≡◌, ◌⊎◌, List, None, Ok, Err, length, refl, ap, ◌∙◌, inl, inr}
+use Rattle.std.proofs.Common.{◌≡◌, ◌⊎◌, List, None, Ok, Err, length, refl, inl, inr}
 use Rattle.nf_table.specs.Grid.{Grid}
 use Rattle.nf_cells.specs.Names.{Name}
 use Rattle.nf_program.specs.declared.program.ProcOptions.{ProcOptions}
