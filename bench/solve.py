@@ -62,7 +62,7 @@ def main():
     parser.add_argument("--netflow", required=True, help="the built program")
     parser.add_argument("--seed", type=int, default=1)
     parser.add_argument("--nodes", type=int, nargs="+", default=[50, 200, 900])
-    parser.add_argument("--rules", nargs="+", default=["first", "best", "bland"])
+    parser.add_argument("--rules", nargs="+", default=["first", "best", "bland", "queue"])
     a = parser.parse_args()
     netflow = os.path.abspath(a.netflow)
     print("| Rule | Nodes | Arcs | Pivots | Seconds | Microseconds a pivot | MB |\n|---|---|---|---|---|---|---|")

@@ -21,7 +21,7 @@ from cases import call, go_through, random_arguments, table, unmet, write_files 
 from plans import Plan  # noqa: E402
 from reading import answer_of_check, is_range_line  # noqa: E402
 
-RULES = ["first", "best", "bland"]
+RULES = ["first", "best", "bland", "queue"]
 VERDICTS = ["OPTIMAL", "INFEASIBLE", "UNBOUNDED"]
 KINDS = ["%s %s" % (layout, verdict) for layout in ("network", "dense", "sparse") for verdict in VERDICTS] \
     + ["changed: " + answer for answer in ("ACCEPTED", "BOUND", "ROW", "REDUCED COST", "DUAL", "COLUMN", "RAY", "RAY ROW")]

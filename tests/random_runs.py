@@ -19,7 +19,7 @@ sys.dont_write_bytecode = True
 from cases import call, go_through, random_arguments, table, write_files  # noqa: E402
 from networks import Scenario  # noqa: E402
 
-RULES = ["first", "best", "bland"]
+RULES = ["first", "best", "bland", "queue", "queue queuesize1=2"]
 NOT_SAVED = "NOT SAVED CERTOUT NO VERDICT"
 
 

@@ -3,8 +3,6 @@
 use Rattle.std.specs.Prelude.{◌≡◌, ◌==◌, ℕ, Bool, true, false, ◌||◌, not, List, Option, Some, None, is_some}
 use Rattle.nf_program.specs.declared.program.Command.{Command}
 use Rattle.nf_program.specs.declared.program.Command.TheVariants.{Run, Check, Again, Export}
-use Rattle.nf_program.specs.declared.program.PriceType.{PriceType}
-use Rattle.nf_program.specs.declared.program.PriceType.TheVariants.{Queue}
 use Rattle.nf_program.specs.declared.program.ProcOptions.{ProcOptions}
 use Rattle.nf_program.specs.declared.program.Program.{Program}
 use Rattle.nf_program.specs.declared.program.SessionOptions.{SessionOptions}
@@ -39,20 +37,14 @@ asks_tables p =
     p.warm || is_some p.conin || is_some p.dualin || is_some p.sessiondata
     || is_some p.arcout || is_some p.nodeout || is_some p.conout || is_some p.dualout || is_some p.sessionout
 
--- The rule is QUEUE.
-abbrev pub is_queue : PriceType → Bool
-is_queue Queue = true
-is_queue _ = false
-
--- A session option other than limits and rules has not its default, or a rule is QUEUE.
+-- A session option other than limits, rules and sizes of queues has not its default.
 abbrev pub asks_more : SessionOptions → Bool
 asks_more o =
     not (o.pause1 == 0) || not (o.pause2 == 0) || o.feasiblepause1 || o.feasiblepause2 || o.endpause1 || o.future1 || o.future2
-    || is_queue o.pricetype1 || is_queue o.pricetype2 || not (o.queuesize1 == 10) || not (o.queuesize2 == 10)
 
 -- `run` accepts a program whose PROC names ARCDATA=, has of outputs only CERTOUT= and of session options only MAXIT1=, MAXIT2=,
--- PRICETYPE1= and PRICETYPE2= without the rule QUEUE, and which has of acts only RUN and QUIT. CERTDATA= may stand there: it is
--- neither fetched nor looked at.
+-- PRICETYPE1=, PRICETYPE2=, QUEUESIZE1= and QUEUESIZE2=, and which has of acts only RUN and QUIT. CERTDATA= may stand there: it
+-- is neither fetched nor looked at.
 pub record StandsForRun (p : Program) (n : SetNames) : Type 0 where
   pub arcdata : p.proc.arcdata ≡ Some n.arcdata
   pub nodedata : p.proc.nodedata ≡ n.nodedata

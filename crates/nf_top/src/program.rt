@@ -4,15 +4,13 @@ ghost use Rattle.std.specs.Io.KnownBytes.{Consumes, IsAtEnd};
 ghost use Rattle.nf_program.specs.declared.program.Command.TheVariants.{Check, Run};
 ghost use Rattle.nf_program.specs.Grammar.{HasProgram};
 ghost use Rattle.nf_top.specs.Outcome.{AllFetched, Input};
-ghost use Rattle.nf_top.specs.Standing.{SetNames as Named, StandsForCheck, StandsForRun, asks_more, asks_path, asks_tables, is_queue};
+ghost use Rattle.nf_top.specs.Standing.{SetNames as Named, StandsForCheck, StandsForRun, asks_more, asks_path, asks_tables};
 ghost use Rattle.std.specs.Str.{IsUtf8};
 ghost use Rattle.nf_top.specs.Steps.{Stops, lent_name, names_of, stop_of};
 ghost use Rattle.nf_top.specs.Words.{IsCommand};
 
 use crate::refusal::{Refusal, Stop};
-use nf_program::{
-    Command, Name, PriceType, ProcOptions, Program, SessionOptions, StmtFault, StmtKind,
-};
+use nf_program::{Command, Name, ProcOptions, Program, SessionOptions, StmtFault, StmtKind};
 use nf_reader::read_program;
 use nf_run::are_standing;
 use std::alloc::Global;
@@ -105,17 +103,7 @@ fn asks_tables(p: &ProcOptions) -> bool
         || p.sessionout.is_some()
 }
 
-// Whether the rule is QUEUE.
-fn is_queue(rule: PriceType) -> bool
-    ensures { result ≡ is_queue rule }
-{
-    match rule {
-        PriceType::Queue => true,
-        _ => false,
-    }
-}
-
-// Whether a session option other than limits and rules has not its default, or a rule is QUEUE.
+// Whether a session option other than limits, rules and sizes of queues has not its default.
 fn asks_more(o: &SessionOptions) -> bool
     ensures { result ≡ asks_more o.now }
 {
@@ -126,10 +114,6 @@ fn asks_more(o: &SessionOptions) -> bool
         || o.endpause1
         || o.future1
         || o.future2
-        || is_queue(o.pricetype1)
-        || is_queue(o.pricetype2)
-        || o.queuesize1 != 10
-        || o.queuesize2 != 10
 }
 
 /// The names of the data sets of a program of `run`, without one for CERTDATA, or None if `run` does not accept the program.
