@@ -12,6 +12,7 @@ use nf_engine::{Engine, Moved};
 use nf_frac::Steps;
 use nf_price::{Queue, Rule};
 use nf_prob::Problem;
+use nf_tree::Tree;
 use std::alloc::Global;
 use std::marker::Brand;
 use std::sync::ledger::{Blank, Ledger};
@@ -107,6 +108,13 @@ fn walked(alloc: Global, seed: u64) -> Result<u32, Fail> {
     goes::<DenseBasis, Brand>(alloc, &p, &mut random, Blank::new(1))
 }
 
+// The same walk over the spanning tree.
+fn walked_over_a_tree(alloc: Global, seed: u64) -> Result<u32, Fail> {
+    let mut random = Random::new(seed);
+    let p = network(alloc, &mut random, seed % 2 == 0)?;
+    goes::<Tree, Brand>(alloc, &p, &mut random, Blank::new(1))
+}
+
 #[test]
 fn walks(rt: HostRuntime) -> Result<(), Fail> {
     let mut moves = 0u32;
@@ -114,5 +122,16 @@ fn walks(rt: HostRuntime) -> Result<(), Fail> {
         moves = moves.saturating_add(walked(rt.alloc(), seed)?);
     }
     assert!(rt; moves >= 200, "only {moves} steps");
+    Ok(())
+}
+
+// The next state is determined, so both kinds of basis walk the same way; all numbers of the tree are computed again.
+#[test]
+fn trees_walk_the_same_way(rt: HostRuntime) -> Result<(), Fail> {
+    for seed in 0..200u64 {
+        let over_the_inverse = walked(rt.alloc(), seed)?;
+        let over_the_tree = walked_over_a_tree(rt.alloc(), seed)?;
+        assert_eq!(rt; over_the_tree, over_the_inverse, "seed {seed}");
+    }
     Ok(())
 }
