@@ -1,7 +1,6 @@
 // Tree views of bases set by hand.
 ghost use Rattle.std.specs.Prelude.{◌≡◌, ◌<◌, ◌≤◌, length, IfOk};
 ghost use Rattle.nf_prob.specs.Building.{empty_program};
-ghost use Rattle.nf_simplex.specs.StageOf.{StageNumber};
 ghost use Rattle.nf_view.specs.View.{HasVertices};
 
 use crate::restored::{with_basics, with_side_row};
@@ -36,6 +35,7 @@ fn add_arcs(builder: &mut ProblemBuilder, nodes: u32, ends: &[(u32, u32)]) -> Re
     requires rows { length builder.old.rows ≡ nodes }
     requires columns { length builder.old.columns ≡ 0 }
     requires arcs { builder.old.arcs ≡ 0 }
+    ensures nodes { IfOk result (λ _. builder.new.nodes ≡ nodes) }
 {
     for i in 0..ends.len() {
         let (tail, head) = ends[i];
@@ -50,6 +50,7 @@ fn add_arcs(builder: &mut ProblemBuilder, nodes: u32, ends: &[(u32, u32)]) -> Re
 fn network(alloc: Global, nodes: u32, ends: &[(u32, u32)]) -> Result<Problem, Fail>
     requires few { nodes ≤ 9 }
     requires few_arcs { length ends.now ≤ 9 }
+    ensures nodes { IfOk result (λ p. p.nodes ≡ nodes) }
 {
     let mut builder = ProblemBuilder::new(alloc, false);
     add_nodes(&mut builder, nodes)?;
@@ -58,7 +59,7 @@ fn network(alloc: Global, nodes: u32, ends: &[(u32, u32)]) -> Result<Problem, Fa
 }
 
 // The tree view of the state of a stage with these columns basic, where they are a basis.
-fn view_of<B: Basis, L: Ledger>(
+fn view_of<L: Ledger>(
     alloc: Global,
     p: &Problem,
     stage: u8,
@@ -66,7 +67,6 @@ fn view_of<B: Basis, L: Ledger>(
     blank: Blank,
 ) -> Result<TreeView, Fail>
     requires stage { (0 < stage) × (stage ≤ 2) }
-    requires takes { (number : StageNumber) → B.Takes p.now number }
     requires name { blank.name ≡ L.name }
     requires parts { blank.parts ≡ L.parts }
     requires some { 0 < blank.parts }
@@ -74,24 +74,22 @@ fn view_of<B: Basis, L: Ledger>(
 {
     let mut steps = Steps::<L>::new(blank);
     let state = with_basics(alloc, p, stage, basics)?;
-    let basis = B::restore(alloc, p, state, &mut steps)?;
+    let basis = DenseBasis::restore(alloc, p, state, &mut steps)?;
     Ok(tree_view(alloc, p, basis.state())?)
 }
 
-// The same in stage one, of a network.
-fn view(alloc: Global, nodes: u32, ends: &[(u32, u32)], basics: &[Col]) -> Result<TreeView, Fail>
-    requires few { nodes ≤ 9 }
-    requires few_arcs { length ends.now ≤ 9 }
-    ensures vertices { IfOk result (HasVertices nodes) }
+fn view(alloc: Global, p: &Problem, stage: u8, basics: &[Col]) -> Result<TreeView, Fail>
+    requires stage { (0 < stage) × (stage ≤ 2) }
+    ensures vertices { IfOk result (HasVertices p.now.nodes) }
 {
-    let p = network(alloc, nodes, ends)?;
-    view_of::<DenseBasis, Brand>(alloc, &p, 1, basics, Blank::new(1))
+    view_of::<Brand>(alloc, p, stage, basics, Blank::new(1))
 }
 
 #[test]
 fn shows_one_arc(rt: HostRuntime) -> Result<(), Fail> {
     let basics = [Col::Given(1), Col::Artificial(1)];
-    let tree = view(rt.alloc(), 2, [(1, 2)].as_slice(), basics.as_slice())?;
+    let p = network(rt.alloc(), 2, [(1, 2)].as_slice())?;
+    let tree = view(rt.alloc(), &p, 1, basics.as_slice())?;
     assert_eq!(rt; tree.predecessors(), [0, 1].as_slice());
     assert_eq!(rt; tree.next_nodes(), [2, 0].as_slice());
     assert_eq!(rt; tree.sizes(), [2, 1].as_slice());
@@ -110,7 +108,8 @@ fn shows_children_by_number(rt: HostRuntime) -> Result<(), Fail> {
         Col::Given(5),
         Col::Artificial(3),
     ];
-    let tree = view(rt.alloc(), 6, ends.as_slice(), basics.as_slice())?;
+    let p = network(rt.alloc(), 6, ends.as_slice())?;
+    let tree = view(rt.alloc(), &p, 1, basics.as_slice())?;
     assert_eq!(rt; tree.predecessors(), [3, 5, 0, 3, 3, 5].as_slice());
     assert_eq!(rt; tree.next_nodes(), [4, 6, 1, 5, 2, 0].as_slice());
     assert_eq!(rt; tree.sizes(), [1, 1, 6, 1, 3, 1].as_slice());
@@ -126,12 +125,8 @@ fn shows_several_children_of_the_root(rt: HostRuntime) -> Result<(), Fail> {
         Col::Artificial(2),
         Col::Artificial(3),
     ];
-    let tree = view(
-        rt.alloc(),
-        4,
-        [(4, 2), (1, 2)].as_slice(),
-        basics.as_slice(),
-    )?;
+    let p = network(rt.alloc(), 4, [(4, 2), (1, 2)].as_slice())?;
+    let tree = view(rt.alloc(), &p, 1, basics.as_slice())?;
     assert_eq!(rt; tree.predecessors(), [0, 0, 0, 2].as_slice());
     assert_eq!(rt; tree.next_nodes(), [2, 4, 0, 3].as_slice());
     assert_eq!(rt; tree.sizes(), [1, 2, 1, 1].as_slice());
@@ -143,7 +138,7 @@ fn shows_several_children_of_the_root(rt: HostRuntime) -> Result<(), Fail> {
 fn leaves_out_an_arc_that_closes_a_cycle(rt: HostRuntime) -> Result<(), Fail> {
     let p = with_side_row(rt.alloc())?;
     let basics = [Col::Given(1), Col::Given(2), Col::Artificial(1)];
-    let tree = view_of::<DenseBasis, Brand>(rt.alloc(), &p, 2, basics.as_slice(), Blank::new(1))?;
+    let tree = view(rt.alloc(), &p, 2, basics.as_slice())?;
     assert_eq!(rt; tree.pred.as_slice(), [0, 0, 1].as_slice());
     assert_eq!(rt; tree.arc.as_slice(), [0, 0, 1].as_slice());
     Ok(())
