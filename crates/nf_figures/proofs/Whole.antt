@@ -34,5 +34,5 @@ module _ (p : LinearProgram) (s t : Standing) (same : s ≡ t) where
   pub pricing-at : (c : ℕ → ℚ) (xs ys : List ℚ) → xs ≡ ys → ArePricing p s c (at xs) → ArePricing p t c (at ys)
   pricing-at c xs ys b h = subst (λ u. ArePricing p u c (at ys)) same (subst (λ l. ArePricing p s c (at l)) b h)
 
-  pub fault-at : {e : FigureFault} → IsFigureFault p s e → IsFigureFault p t e
-  fault-at {e} h = subst (λ u. IsFigureFault p u e) same h
+  pub fault-at : (e : FigureFault) → IsFigureFault p s e → IsFigureFault p t e
+  fault-at e h = subst (λ u. IsFigureFault p u e) same h

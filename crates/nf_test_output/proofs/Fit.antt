@@ -19,6 +19,7 @@ small b e = IsUtf8-from_ascii (b ∷ []) of
     within : (b < 128) ⊎ (128 ≤ b) → b < 128
     within (inl h) = h
     within (inr h) = absurd (omega (arith, e, h))
+
     of : (i : ℕ) → slice_index (b ∷ []) i < 128
     of zero = within (cases_lt b 128)
     of (suc i) = omega arith

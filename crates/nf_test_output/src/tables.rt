@@ -168,7 +168,15 @@ fn tables_of_stage_two(rt: HostRuntime) -> Result<(), Fail> {
     );
     let (sums, duals) = ([five, five.neg(), Frac::from_whole(15)], [zero, two, zero]);
     let rows = RowFigures::new(sums.as_slice(), duals.as_slice());
-    let t = dualout(alloc, &p, &labels, &state, &rows, &TreeFigures::none(), false)?;
+    let t = dualout(
+        alloc,
+        &p,
+        &labels,
+        &state,
+        &rows,
+        &TreeFigures::none(),
+        false,
+    )?;
     assert!(rt;
         has_row(
             &t,

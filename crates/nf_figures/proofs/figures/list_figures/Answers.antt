@@ -23,7 +23,7 @@ returns-in_err-reduced-clause-fault g c =
     let same : t ≡ s = c.state.ensures.standing ∙ c.in_ok-duals.ensures.standing in
     let shown = c.in_ok-duals.ensures.duals in
     handed_on c.from_residual-in_err-reduced.result _ _ c.from_residual-in_err-reduced.ensures.1
-    (fault-at p t s same
+    (fault-at p t s same _
     (c.in_err-reduced.ensures.fault
     (pricing-at p s t (sym same) (costs_of p PhaseTwo) c.in_ok-duals.duals c.items-2.result.now (sym c.items-2.ensures)
     (pricing p s (g.met.B.Basis.sound p c.args.basis.now c.requires.numbers).basis c.in_ok-duals.duals c.args.best shown.factor c.requires.ended shown.printed))))
@@ -40,7 +40,7 @@ returns-in_err-sums-clause-fault g c =
     let t = c.state-2.result.now.standing in
     let same : t ≡ s = c.state-2.ensures.standing ∙ c.in_ok-duals.ensures.standing in
     handed_on c.from_residual-in_err-sums.result _ _ c.from_residual-in_err-sums.ensures.1
-    (fault-at p t s same
+    (fault-at p t s same _
     (c.in_err-sums.ensures.fault
     (given-at p (g.B.Basis.standing c.shown_duals.new.basis) t (sym c.state-2.ensures.standing) c.in_ok-flows.flows c.items-3.result.now (sym c.items-3.ensures) c.in_ok-flows.ensures.given)))
 
