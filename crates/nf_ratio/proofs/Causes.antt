@@ -1,5 +1,5 @@
 -- The operations of the ratio test arise from the state: ways to bounds, and ratios of values and weights.
-use Rattle.std.proofs.Common.{◌≡◌, ◌≢◌, ℕ, ◌<◌, ◌≤◌, ◌-◌, inl, inr, List, length, Option, Some, None, refl, sym, ap, ◌∙◌, subst, arith}
+use Rattle.std.proofs.Common.{◌≡◌, ◌≢◌, ℕ, ◌<◌, ◌≤◌, ◌-◌, inl, inr, List, length, Some, None, refl, sym, ap, ◌∙◌, subst, arith}
 use Rattle.nf_num.specs.Rational.{ℚ, zero_ℚ, ◌-ℚ◌}
 use Rattle.nf_frac.specs.declared.passed.Passed.{Passed}
 use Rattle.nf_model.specs.Program.{LinearProgram, at}
@@ -15,11 +15,11 @@ use Rattle.nf_basis.specs.declared.col.Place.{Place}
 use Rattle.nf_basis.specs.declared.col.Place.TheVariants.{Lower, Upper, Zero, Basic, Absent}
 use Rattle.nf_basis.specs.Names.{col_of}
 use Rattle.nf_basis.specs.Kept.{IsPresent, number}
-use Rattle.nf_basis.specs.Numbers.{AreEntriesBySlot, IsInverseColumnBySlot, IsSound, in_slot, slot_number}
+use Rattle.nf_basis.specs.Numbers.{AreEntriesBySlot, IsSound, in_slot, slot_number}
 use Rattle.nf_basis.specs.Arising.{StateTerms, count_columns, IsBoundAt, IsPivotAt}
 use Rattle.nf_basis.specs.Arising.StateTerms.{ratio as ratio_row, ratio_distance, distance}
 use Rattle.nf_basis.specs.Arising.IsChange.{value as value_changed, weight as weight_changed}
-use Rattle.nf_ratio.specs.Loops.{bound_at, WeightTerms}
+use Rattle.nf_ratio.specs.Loops.{AreTiedWeights, bound_at, WeightTerms}
 use Rattle.nf_ratio.specs.Ties.{tie}
 
 module _ (p : LinearProgram) (s : Standing) (slots : List Col) (x : ℕ → ℚ) (sound : IsSound p s slots x) where
@@ -81,7 +81,7 @@ module _ (p : LinearProgram) (s : Standing) (slots : List Col) (x : ℕ → ℚ)
       (λ t z. subst (StateTerms p s) (sym z) (distance (number p c) l u (number_within (layout_of p) s.stage (col_of c) sound.problem.arcs_within here.1) (lower_is p s slots x sound c here ∙ a) (upper_is p s slots x sound c here ∙ b))) q
 
   -- ratios of weights
-  pub weights_passed : (entries weights : List ℚ) (ts : List ℕ) (n row : ℕ) → AreEntriesBySlot p s slots c entries → IsInverseColumnBySlot p s slots row weights → 0 < row → row ≤ rows_of p s → length entries ≡ rows_of p s
+  pub weights_passed : (entries weights : List ℚ) (ts : List ℕ) (n row : ℕ) → AreEntriesBySlot p s slots c entries → AreTiedWeights p s slots row ts n weights → 0 < row → row ≤ rows_of p s → length entries ≡ rows_of p s
       → ((k : ℕ) → k < n → tie ts k < length entries → at entries (tie ts k) ≢ zero_ℚ) → (e : Passed) → PassesIn (WeightTerms entries weights ts n) e → PassesIn (StateTerms p s) e
   weights_passed entries weights ts n row are inv some few long pivot e q = wider (WeightTerms entries weights ts n) (StateTerms p s) e (λ t z. of t z) q
     where
@@ -89,5 +89,5 @@ module _ (p : LinearProgram) (s : Standing) (slots : List Col) (x : ℕ → ℚ)
       of t (k, h, there, z) =
           let i : ℕ = tie ts k in
           let g : i < rows_of p s = subst (λ m. i < m) long there in
-          subst (StateTerms p s) (sym (z ∙ ap (quotient_terms (at weights i)) (are.by_slot i g)))
-          (ratio_row (col_of c) (slot_number p slots i) are.weights (at weights i) (pivot_at p s slots x sound c here entries are i g (pivot k h there)) (weight_changed (at weights i) (slot_within p s slots x sound i g, row - 1, inv.weights, (let a : row - 1 < rows_of p s = omega arith in a), inv.are_weights, inv.by_slot i g)))
+          subst (StateTerms p s) (sym (z ∙ ap (quotient_terms (at weights k)) (are.by_slot i g)))
+          (ratio_row (col_of c) (slot_number p slots i) are.weights (at weights k) (pivot_at p s slots x sound c here entries are i g (pivot k h there)) (weight_changed (at weights k) (slot_within p s slots x sound i g, row - 1, inv.weights, (let a : row - 1 < rows_of p s = omega arith in a), inv.are_weights, inv.by_tie k h g)))

@@ -1,5 +1,5 @@
 -- The ratios of the values by place: those of the slots, and then that of the column that enters.
-use Rattle.std.proofs.Common.{◌≡◌, ℕ, suc, ◌+◌, ◌<◌, ◌≤◌, Bool, List, length, if◌then◌else◌, lt-ltb, le-ltb, sym, ap, ◌∙◌, subst, arith}
+use Rattle.std.proofs.Common.{◌≡◌, ℕ, suc, ◌+◌, ◌<◌, ◌≤◌, Bool, List, length, if◌then◌else◌, lt-ltb, le-ltb, sym, ap, subst, arith}
 use Rattle.nf_num.specs.Rational.{ℚ}
 use Rattle.nf_model.specs.Program.{LinearProgram}
 use Rattle.nf_basis.specs.declared.col.Col.{Col}

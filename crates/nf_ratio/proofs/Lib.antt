@@ -8,3 +8,4 @@ mod Winner
 mod Steps
 mod Looking
 mod Answered
+pub mod Slots

@@ -18,14 +18,14 @@ use Rattle.nf_simplex.proofs.Least.{less_same}
 use Rattle.nf_basis.specs.declared.col.Col.{Col}
 use Rattle.nf_basis.specs.Names.{col_of}
 use Rattle.nf_basis.specs.Kept.{IsPresent, number}
-use Rattle.nf_basis.specs.Numbers.{AreEntriesBySlot, IsInverseColumnBySlot, IsSound, in_slot, slot_number}
+use Rattle.nf_basis.specs.Numbers.{AreEntriesBySlot, IsSound, in_slot, slot_number}
 use Rattle.nf_ratio.specs.declared.tie.Found.{Found}
 use Rattle.nf_ratio.specs.Ratios.{MoveNumbers, Limits, IsLeastIn, StandsAloneAfter}
 use Rattle.nf_ratio.specs.Ties.{AreInOrder, AreLeast, IsAmong, tie}
-use Rattle.nf_ratio.specs.Loops.{first_ratio, turned, span_of, limiting, numbers_by, HasLeast, IsFree, bound_in, value_ratio_at, weight_ratio_at}
+use Rattle.nf_ratio.specs.Loops.{AreTiedWeights, turned, span_of, limiting, numbers_by, HasLeast, IsFree, bound_in, value_ratio_at, weight_ratio_at}
 use Rattle.nf_ratio.proofs.First.{ratio_last, ratio_slot}
 use Rattle.nf_ratio.proofs.Offers.{some_none, some_same, there_or_none}
-use Rattle.nf_ratio.proofs.Tied.{IsCandidate, IsTie, MayTie, Narrows, among_or_not, narrows, narrows_by, tie_first, tie_next, tie_alone, tie_least}
+use Rattle.nf_ratio.proofs.Tied.{IsCandidate, IsTie, MayTie, among_or_not, narrows, narrows_by, tie_first, tie_next, tie_alone, tie_least}
 use Rattle.nf_ratio.proofs.Winner.{bounds_by, slot_bound, ratios_by, limits_at, place_of_limit, column_slot, column_last, may_slot, may_last, R_slot, R_last, IsAt}
 use Rattle.nf_ratio.proofs.Steps.{one_column}
 use Rattle.nf_ratio.proofs.Signs.{none_at_zero}
@@ -137,30 +137,33 @@ module _ (p : LinearProgram) (s : Standing) (slots : List Col) (x : ℕ → ℚ)
   abbrev R2 : ℕ → ℕ → ℚ
   R2 i k = ratios_by p (stage_of p s) (rows_of p s) slots c down entries l.feasible.feasible.values l.feasible.feasible.inverse i k
 
-  weight_slot : (weights : List ℚ) (i : ℕ) → i < length entries → weight_ratio_at down entries weights i ≡ turned down (at weights i) (at entries i)
-  weight_slot weights i h = ap (λ (b : Bool). if b then turned down (at weights i) (at entries i) else zero_ℚ) (lt-ltb i (length entries) h)
+  weight_slot : (w : ℚ) (i : ℕ) → i < length entries → weight_ratio_at down entries w i ≡ turned down w (at entries i)
+  weight_slot w i h = ap (λ (b : Bool). if b then turned down w (at entries i) else zero_ℚ) (lt-ltb i (length entries) h)
 
-  weight_last : (weights : List ℚ) (i : ℕ) → length entries ≤ i → weight_ratio_at down entries weights i ≡ zero_ℚ
-  weight_last weights i h = ap (λ (b : Bool). if b then turned down (at weights i) (at entries i) else zero_ℚ) (le-ltb i (length entries) h)
+  weight_last : (w : ℚ) (i : ℕ) → length entries ≤ i → weight_ratio_at down entries w i ≡ zero_ℚ
+  weight_last w i h = ap (λ (b : Bool). if b then turned down w (at entries i) else zero_ℚ) (le-ltb i (length entries) h)
 
   -- The ratios of the weights in the next inverse column are the next members.
-  next_members : (row : ℕ) → row ≡ suc (order (stage_of p s) looked) → (weights : List ℚ) → looked < rows_of p s → IsInverseColumnBySlot p s slots row weights → length entries ≡ rows_of p s
-      → (i : ℕ) → i < suc (rows_of p s) → weight_ratio_at down entries weights i ≡ R2 i (suc looked)
-  next_members row is weights h inv long i g = of (less_or_not p s slots x sound l.feasible c here down entries l.are i (rows_of p s))
+  next_members : (row : ℕ) → row ≡ suc (order (stage_of p s) looked) → (weights : List ℚ) → looked < rows_of p s → AreTiedWeights p s slots row ts count weights → length entries ≡ rows_of p s
+      → (k : ℕ) → k < count → weight_ratio_at down entries (at weights k) (tie ts k) ≡ R2 (tie ts k) (suc looked)
+  next_members row is weights h inv long k g = of (less_or_not p s slots x sound l.feasible c here down entries l.are (tie ts k) (rows_of p s))
     where
-      of : (i < rows_of p s) ⊎ (rows_of p s ≤ i) → weight_ratio_at down entries weights i ≡ R2 i (suc looked)
-      of (inl k) =
-          weight_slot weights i (subst (λ z. i < z) (sym long) k)
-          ∙ (ap (λ y. turned down y (at entries i))
-          (inv.by_slot i k
-          ∙ (weights_unique (stage_of p s) (place_at s) (delta (row - 1)) inv.weights (l.feasible.feasible.inverse (order (stage_of p s) looked)) sound.basis.independent inv.are_weights
-          (subst (λ r. AreWeights (stage_of p s) (place_at s) (delta r) (l.feasible.feasible.inverse (order (stage_of p s) looked))) (let e : order (stage_of p s) looked ≡ row - 1 = before _ row is in e) (l.feasible.feasible.are_inverse (order (stage_of p s) looked) (order_within (stage_of p s) looked h))) (slot_number p slots i) (within p s slots x sound l.feasible c here down entries l.are i k)
-          ∙ sym (less_zero _)))
-          ∙ sym (R_slot p s slots x sound c here down entries l.are n2 i (suc looked) k))
-      of (inr k) = weight_last weights i (subst (λ z. z ≤ i) (sym long) k) ∙ sym (R_last p s slots x sound c here down entries l.are n2 i (suc looked) k)
+      i : ℕ
+      i = tie ts k
 
-  pub looked_next : (row : ℕ) → row ≡ suc (order (stage_of p s) looked) → (weights : List ℚ) (us : List ℕ) (f : Found) → looked < rows_of p s → IsInverseColumnBySlot p s slots row weights → length entries ≡ rows_of p s → length us ≡ length ts
-      → AreLeast (tie ts) (λ k. Some (weight_ratio_at down entries weights (tie ts k))) count us f → HasLooked p s slots c down entries (looked + 1) us f.count
+      of : (i < rows_of p s) ⊎ (rows_of p s ≤ i) → weight_ratio_at down entries (at weights k) i ≡ R2 i (suc looked)
+      of (inl b) =
+          weight_slot (at weights k) i (subst (λ z. i < z) (sym long) b)
+          ∙ (ap (λ y. turned down y (at entries i))
+          (inv.by_tie k g b
+          ∙ (weights_unique (stage_of p s) (place_at s) (delta (row - 1)) inv.weights (l.feasible.feasible.inverse (order (stage_of p s) looked)) sound.basis.independent inv.are_weights
+          (subst (λ r. AreWeights (stage_of p s) (place_at s) (delta r) (l.feasible.feasible.inverse (order (stage_of p s) looked))) (let e : order (stage_of p s) looked ≡ row - 1 = before _ row is in e) (l.feasible.feasible.are_inverse (order (stage_of p s) looked) (order_within (stage_of p s) looked h))) (slot_number p slots i) (within p s slots x sound l.feasible c here down entries l.are i b)
+          ∙ sym (less_zero _)))
+          ∙ sym (R_slot p s slots x sound c here down entries l.are n2 i (suc looked) b))
+      of (inr b) = weight_last (at weights k) i (subst (λ z. z ≤ i) (sym long) b) ∙ sym (R_last p s slots x sound c here down entries l.are n2 i (suc looked) b)
+
+  pub looked_next : (row : ℕ) → row ≡ suc (order (stage_of p s) looked) → (weights : List ℚ) (us : List ℕ) (f : Found) → looked < rows_of p s → AreTiedWeights p s slots row ts count weights → length entries ≡ rows_of p s → length us ≡ length ts
+      → AreLeast (tie ts) (λ k. Some (weight_ratio_at down entries (at weights k) (tie ts k))) count us f → HasLooked p s slots c down entries (looked + 1) us f.count
   looked_next row is weights us f h inv long same a = record {
     feasible = l.feasible;
     are = l.are;
@@ -170,8 +173,8 @@ module _ (p : LinearProgram) (s : Standing) (slots : List Col) (x : ℕ → ℚ)
     in_order = a.in_order;
     tie = subst (λ z. IsTie (rows_of p s) (bounds_by p (rows_of p s) slots c down entries) R2 (suc z) (IsAmong us f.count)) (let e : suc looked ≡ looked + 1 = omega arith in e)
         (tie_next (rows_of p s) (bounds_by p (rows_of p s) slots c down entries) R2 (suc looked) (IsAmong ts count) l.tie (IsAmong us f.count) (λ i g t. among_or_not ts count i)
-        (narrows_by (IsCandidate (tie ts) (λ k. Some (weight_ratio_at down entries weights (tie ts k))) count) (IsAmong ts count) (IsAmong us f.count) (λ i. R2 i (suc looked)) (λ i t. (t.0, t.1, t.2)) (λ i t. (t.0, t.1, t.2, λ z. some_none _ z))
-        (narrows (tie ts) (λ k. Some (weight_ratio_at down entries weights (tie ts k))) count us f a (λ i. R2 i (suc looked)) (λ k u g e. sym (next_members row is weights h inv long (tie ts k) (l.tie.below (tie ts k) (k, g, refl))) ∙ some_same _ u e))));
+        (narrows_by (IsCandidate (tie ts) (λ k. Some (weight_ratio_at down entries (at weights k) (tie ts k))) count) (IsAmong ts count) (IsAmong us f.count) (λ i. R2 i (suc looked)) (λ i t. (t.0, t.1, t.2)) (λ i t. (t.0, t.1, t.2, λ z. some_none _ z))
+        (narrows (tie ts) (λ k. Some (weight_ratio_at down entries (at weights k) (tie ts k))) count us f a (λ i. R2 i (suc looked)) (λ k u g e. sym (next_members row is weights h inv long k g) ∙ some_same _ u e))));
   }
 
   -- a column that limits the move, at its place

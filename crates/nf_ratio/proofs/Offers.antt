@@ -1,11 +1,10 @@
 -- The places that tie, candidate by candidate.
-use Rattle.std.proofs.Common.{◌≡◌, ◌≢◌, ℕ, suc, ◌+◌, ◌<◌, ◌≤◌, ◌⊎◌, inl, inr, List, length, set, Option, Some, None, refl, sym, ap, ◌∙◌, subst, arith}
+use Rattle.std.proofs.Common.{◌≡◌, ◌≢◌, ℕ, ◌+◌, ◌<◌, ◌⊎◌, inl, inr, List, length, set, Option, Some, None, refl, sym, ap, ◌∙◌, subst, arith}
 use Rattle.std.proofs.lemmas.List.{get_or-set_same, get_or-set_other}
 use Rattle.std.specs.declared.cmp.Ordering.{Ordering}
 use Rattle.std.specs.declared.cmp.Ordering.TheVariants.{Less, Equal, Greater}
 use Rattle.nf_num.specs.Rational.{ℚ, ◌<ℚ◌}
 use Rattle.nf_frac.specs.Compared.{IsOrder}
-use Rattle.nf_num.proofs.Laws.{le_of_lt, not_le_of_lt}
 use Rattle.nf_num.proofs.Order.{lt_irrefl}
 use Rattle.nf_simplex.proofs.FieldLaws.{less_cases, less_trans}
 use Rattle.nf_ratio.specs.declared.tie.Found.{Found}

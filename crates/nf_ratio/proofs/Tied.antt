@@ -1,5 +1,5 @@
 -- Places that tie: where the least of the next members are kept, the least vectors are.
-use Rattle.std.proofs.Common.{◌≡◌, ◌≢◌, ℕ, zero, suc, ◌<◌, ◌≤◌, ◌⊎◌, inl, inr, List, length, Option, Some, None, refl, sym, ap, ◌∙◌, subst, arith, [], ◌∷◌}
+use Rattle.std.proofs.Common.{◌≡◌, ◌≢◌, ℕ, zero, suc, ◌<◌, ◌≤◌, ◌⊎◌, inl, inr, List, Option, Some, None, refl, sym, ap, ◌∙◌, subst, arith, [], ◌∷◌}
 use Rattle.nf_num.specs.Rational.{ℚ, ◌+ℚ◌, neg_ℚ, ◌<ℚ◌}
 use Rattle.nf_simplex.specs.Lex.{IsLexLess}
 use Rattle.nf_simplex.proofs.FieldLaws.{less_cases}

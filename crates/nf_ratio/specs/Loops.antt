@@ -1,7 +1,7 @@
 -- What the functions below `limit` compute: bounds ahead, ratios by place, which are the slots and then the entering
 -- column itself, and the one that is the least.
 -- `limit` rests on them.
-use Rattle.std.specs.Prelude.{◌≡◌, ◌≢◌, ℕ, suc, zero, ◌<◌, ◌≤◌, ◌⊎◌, Bool, List, length, Option, Some, None, option_map, pos, negsuc, ℤ, nat_lt, if◌then◌else◌}
+use Rattle.std.specs.Prelude.{◌≡◌, ℕ, suc, zero, ◌-◌, ◌<◌, ◌≤◌, ◌⊎◌, Bool, List, length, Option, Some, None, option_map, pos, negsuc, ℤ, nat_lt, if◌then◌else◌}
 use Rattle.nf_num.specs.Rational.{ℚ, zero_ℚ, numer, ◌-ℚ◌, ◌*ℚ◌, inv_ℚ}
 use Rattle.nf_model.specs.Program.{LinearProgram, at}
 use Rattle.nf_prob.specs.Numbers.{IsNumber}
@@ -11,7 +11,7 @@ use Rattle.nf_simplex.specs.Step.{signed}
 use Rattle.nf_simplex.specs.Layout.{layout_of}
 use Rattle.nf_simplex.specs.Columns.{col_lower, col_upper}
 use Rattle.nf_simplex.specs.Columns as columns
-use Rattle.nf_simplex.specs.Standing.{Standing, rows_of, AreEntriesOf, IsFeasibleState}
+use Rattle.nf_simplex.specs.Standing.{Standing, rows_of, AreEntriesOf, IsFeasibleState, IsInverseColumnOf}
 use Rattle.nf_basis.specs.declared.col.Col.{Col}
 use Rattle.nf_basis.specs.declared.col.Col.TheVariants.{Given, Slack, Artificial}
 use Rattle.nf_basis.specs.declared.col.Place.{Place}
@@ -77,13 +77,19 @@ span_of p c = distance_of (col_lower (layout_of p) (col_of c)) (col_upper (layou
 abbrev pub value_ratio_at : LinearProgram → List Col → (ℕ → ℚ) → Col → Bool → List ℚ → ℕ → Option ℚ
 value_ratio_at p slots x c down entries i = if nat_lt i (length entries) then first_ratio p slots x down entries i else span_of p c
 
--- The ratio of the weights in an inverse column in a place, which is 0 in the last one.
-abbrev pub weight_ratio_at : Bool → List ℚ → List ℚ → ℕ → ℚ
-weight_ratio_at down entries weights i = if nat_lt i (length entries) then turned down (at weights i) (at entries i) else zero_ℚ
+-- Of the places that tie, each slot's weight in the inverse column of row i, which counts from 1: that of the k-th in place k.
+pub record AreTiedWeights (p : LinearProgram) (s : Standing) (slots : List Col) (i : ℕ) (ts : List ℕ) (count : ℕ) (out : List ℚ) : Type 0 where
+  pub weights : ℕ → ℚ
+  pub are_weights : IsInverseColumnOf p s (i - 1) weights
+  pub by_tie : (k : ℕ) → k < count → tie ts k < rows_of p s → at out k ≡ weights (slot_number p slots (tie ts k))
+
+-- The ratio in place i, where this is the weight there in an inverse column: 0 in the last one.
+abbrev pub weight_ratio_at : Bool → List ℚ → ℚ → ℕ → ℚ
+weight_ratio_at down entries weight i = if nat_lt i (length entries) then turned down weight (at entries i) else zero_ℚ
 
 -- The quotients of which those in the first n places of a list are.
 abbrev pub WeightTerms : List ℚ → List ℚ → List ℕ → ℕ → Terms → Type 0
-WeightTerms entries weights ts n t = (k : ℕ) × (k < n) × (tie ts k < length entries) × (t ≡ quotient_terms (at weights (tie ts k)) (at entries (tie ts k)))
+WeightTerms entries weights ts n t = (k : ℕ) × (k < n) × (tie ts k < length entries) × (t ≡ quotient_terms (at weights k) (at entries (tie ts k)))
 
 -- ---- the least
 -- The column whose ratio stands in a place: the one in a slot, and the entering one in the last place.

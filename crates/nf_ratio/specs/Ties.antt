@@ -19,6 +19,13 @@ IsAmong ts n i = (k : ℕ) × (k < n) × (tie ts k ≡ i)
 abbrev pub AreInOrder : List ℕ → ℕ → Type 0
 AreInOrder ts n = (k l : ℕ) → k < l → l < n → tie ts k < tie ts l
 
+-- Of the first `count` places of a list, the first n are slots, which are below `rows`, and no other is.
+pub record AreSlotsFirst (rows : ℕ) (ts : List ℕ) (count n : ℕ) : Type 0 where
+  pub few : n ≤ count
+  pub no_more : n ≤ rows
+  pub slots : (k : ℕ) → k < n → tie ts k < rows
+  pub every : (k : ℕ) → k < count → tie ts k < rows → k < n
+
 -- Of n candidates, each with a place and some with a ratio, the list has the places of those whose ratio is the least,
 -- in order.
 pub record AreLeast (place : ℕ → ℕ) (ratio : ℕ → Option ℚ) (n : ℕ) (ts : List ℕ) (f : Found) : Type 0 where

@@ -10,8 +10,9 @@ ghost use Rattle.nf_basis.specs.Kept.{IsPresent};
 ghost use Rattle.nf_basis.specs.Names.{col_of};
 ghost use Rattle.nf_basis.specs.Numbers.{AreEntriesBySlot};
 ghost use Rattle.nf_ratio.specs.Answer.{CanMove, IsLimitOf};
-ghost use Rattle.nf_ratio.specs.Loops.{IsAnswer, IsWinner};
+ghost use Rattle.nf_ratio.specs.Loops.{AreTiedWeights, IsAnswer, IsWinner};
 ghost use Rattle.nf_ratio.specs.Ratios.{StandsAloneAfter};
+ghost use Rattle.nf_ratio.specs.Ties.{AreInOrder, AreSlotsFirst, tie};
 
 use crate::answer::Limit;
 use crate::ratios::{first_ties, place_ahead, weight_ties};
@@ -73,7 +74,7 @@ fn limit_in<B: Basis, L: Ledger>(
     down: bool,
     entries: &mut [Frac],
     weights: &mut [Frac],
-    ties: &mut [usize],
+    ties: &mut [u32],
     steps: &mut Steps<L>,
 ) -> Result<Limit, Passed>
     requires numbers { B.HasNumbers p.now basis.old }
@@ -113,6 +114,54 @@ fn row_at(p: &Problem, rows: usize, place: usize) -> u32
     }
 }
 
+// How many of the first places are slots. The places rise, so the one behind the slots, that of the column that enters, is
+// the last of them if it is there.
+fn count_slots(ties: &[u32], count: usize, rows: usize) -> usize
+    requires some { 0 < count }
+    requires few { count ≤ length ties.now }
+    requires in_order { AreInOrder ties.now count }
+    requires within { (k : ℕ) → k < count → tie ties.now k ≤ rows }
+    ensures { AreSlotsFirst rows ties.now count result }
+{
+    let last = count - 1;
+    if ties[last] as usize == rows {
+        last
+    } else {
+        count
+    }
+}
+
+// Finds the weights of those of the first places that are slots, in the inverse column of a row: that of the k-th in place k.
+fn tied_weights<B: Basis, L: Ledger>(
+    p: &Problem,
+    basis: &mut B,
+    row: u32,
+    ties: &[u32],
+    count: usize,
+    weights: &mut [Frac],
+    steps: &mut Steps<L>,
+) -> Result<(), Passed>
+    requires numbers { B.HasNumbers p.now basis.old }
+    requires present { (0 < row) × (row ≤ rows_of p.now (B.standing basis.old)) }
+    requires some { 0 < count }
+    requires few { count ≤ length ties.now }
+    requires in_order { AreInOrder ties.now count }
+    requires within { (k : ℕ) → k < count → tie ties.now k ≤ rows_of p.now (B.standing basis.old) }
+    requires weights { length weights.old ≡ rows_of p.now (B.standing basis.old) }
+    ensures numbers { IfOk result (λ _. B.HasNumbers p.now basis.new) }
+    ensures standing { IfOk result (λ _. B.standing basis.new ≡ B.standing basis.old) }
+    ensures slots { IfOk result (λ _. B.slots basis.new ≡ B.slots basis.old) }
+    ensures values { IfOk result (λ _. B.values p.now basis.new ≡ B.values p.now basis.old) }
+    ensures size { length weights.new ≡ length weights.old }
+    ensures weights { IfOk result (λ _. AreTiedWeights p.now (B.standing basis.old) (B.slots basis.old) row ties.now count weights.new) }
+    ensures passed { IfErr result (PassesIn (StateTerms p.now (B.standing basis.old))) }
+    ensures cost { steps.new ≤ steps.old + B.unit p.now (B.standing basis.old).stage }
+{
+    let slots = count_slots(ties, count, weights.len());
+    basis.inverse_weights(p, row, &ties[..slots], &mut weights[..slots], steps)?;
+    Ok(())
+}
+
 // The place of the least ratio, if there is one: a slot, or after them the column that enters itself. As long as several
 // tie, the next inverse column tells them apart.
 fn winner<B: Basis, L: Ledger>(
@@ -122,7 +171,7 @@ fn winner<B: Basis, L: Ledger>(
     down: bool,
     entries: &[Frac],
     weights: &mut [Frac],
-    ties: &mut [usize],
+    ties: &mut [u32],
     steps: &mut Steps<L>,
 ) -> Result<Option<usize>, Passed>
     requires numbers { B.HasNumbers p.now basis.old }
@@ -149,10 +198,10 @@ fn winner<B: Basis, L: Ledger>(
             return Ok(None);
         }
         if count == 1 {
-            return Ok(Some(ties[0]));
+            return Ok(Some(ties[0] as usize));
         }
         let row = row_at(p, entries.len(), looked);
-        basis.inverse_column(p, row, weights, steps)?;
+        tied_weights(p, basis, row, ties, count, weights, steps)?;
         let next = weight_ties(entries, weights, down, count, ties, steps)?;
         count = next.count;
         looked += 1;

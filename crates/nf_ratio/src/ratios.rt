@@ -98,7 +98,7 @@ fn value_ties<B: Basis, L: Ledger>(
     basis: &B,
     entries: &[Frac],
     down: bool,
-    ties: &mut [usize],
+    ties: &mut [u32],
     steps: &mut Steps<L>,
 ) -> Result<Found, Passed>
     requires numbers { B.HasNumbers p.now basis.now }
@@ -114,7 +114,7 @@ fn value_ties<B: Basis, L: Ledger>(
     let mut found = Found::none();
     for slot in 0..entries.len() {
         let ratio = value_ratio(p, basis, slot as u32, entries, down, steps)?;
-        found = found.offer_if(slot, ratio, ties);
+        found = found.offer_if(slot as u32, ratio, ties);
     }
     Ok(found)
 }
@@ -127,7 +127,7 @@ pub(crate) fn first_ties<B: Basis, L: Ledger>(
     entering: Col,
     entries: &[Frac],
     down: bool,
-    ties: &mut [usize],
+    ties: &mut [u32],
     steps: &mut Steps<L>,
 ) -> Result<Found, Passed>
     requires numbers { B.HasNumbers p.now basis.now }
@@ -140,9 +140,10 @@ pub(crate) fn first_ties<B: Basis, L: Ledger>(
     ensures passed { IfErr result (PassesIn (StateTerms p.now (B.standing basis.now))) }
     ensures cost { steps.new ≤ steps.old + (1 + 2 * length entries.now) }
 {
+    let _rows = p.rows();
     let slots = value_ties(p, basis, entries, down, ties, steps)?;
     let own = span(p, entering, steps)?;
-    Ok(slots.offer_if(entries.len(), own, ties))
+    Ok(slots.offer_if(entries.len() as u32, own, ties))
 }
 
 // How far a column's bounds are apart, where it has both.
@@ -164,35 +165,38 @@ fn span<L: Ledger>(p: &Problem, col: Col, steps: &mut Steps<L>) -> Result<Option
     }
 }
 
-// The ratio of the weight in a place: 0 for the column that enters.
+// The ratio of the weight in a place, the k-th that ties: 0 for the column that enters.
 fn weight_ratio<L: Ledger>(
     entries: &[Frac],
     weights: &[Frac],
     down: bool,
-    place: usize,
+    place: u32,
+    k: usize,
     steps: &mut Steps<L>,
 ) -> Result<Frac, Passed>
-    requires weights { length weights.now ≡ length entries.now }
     requires within { place ≤ length entries.now }
+    requires weight { place < length entries.now → k < length weights.now }
     requires entry { place < length entries.now → at entries.now place ≢ zero_ℚ }
-    ensures value { IfOk result (λ r. r ≡ weight_ratio_at down entries.now weights.now place) }
-    ensures passed { IfErr result (λ e. (place < length entries.now) × PassesIn (Is (quotient_terms (at weights.now place) (at entries.now place))) e) }
+    ensures value { IfOk result (λ r. r ≡ weight_ratio_at down entries.now (at weights.now k) place) }
+    ensures passed { IfErr result (λ e. (place < length entries.now) × PassesIn (Is (quotient_terms (at weights.now k) (at entries.now place))) e) }
     ensures cost { steps.new ≤ steps.old + 1 }
 {
+    let place = place as usize;
     if place == entries.len() {
         return Ok(Frac::zero());
     }
-    let ratio = ratio(weights[place], entries[place], down, steps)?;
+    let ratio = ratio(weights[k], entries[place], down, steps)?;
     Ok(ratio)
 }
 
-// Of the first places of a list, those whose ratio of the weight in an inverse column is the least.
+// Of the first places of a list, those whose ratio of the weight in an inverse column is the least. The weight of the k-th
+// place stands in place k.
 pub(crate) fn weight_ties<L: Ledger>(
     entries: &[Frac],
     weights: &[Frac],
     down: bool,
     count: usize,
-    ties: &mut [usize],
+    ties: &mut [u32],
     steps: &mut Steps<L>,
 ) -> Result<Found, Passed>
     requires weights { length weights.now ≡ length entries.now }
@@ -201,14 +205,14 @@ pub(crate) fn weight_ties<L: Ledger>(
     requires within { (k : ℕ) → k < count → tie ties.old k ≤ length entries.now }
     requires entries { (k : ℕ) → k < count → tie ties.old k < length entries.now → at entries.now (tie ties.old k) ≢ zero_ℚ }
     ensures size { length ties.new ≡ length ties.old }
-    ensures ties { IfOk result (AreLeast (tie ties.old) (λ k. Some (weight_ratio_at down entries.now weights.now (tie ties.old k))) count ties.new) }
+    ensures ties { IfOk result (AreLeast (tie ties.old) (λ k. Some (weight_ratio_at down entries.now (at weights.now k) (tie ties.old k))) count ties.new) }
     ensures passed { IfErr result (PassesIn (WeightTerms entries.now weights.now ties.old count)) }
     ensures cost { steps.new ≤ steps.old + count }
 {
     let mut found = Found::none();
     for k in 0..count {
         let place = ties[k];
-        let ratio = weight_ratio(entries, weights, down, place, steps)?;
+        let ratio = weight_ratio(entries, weights, down, place, k, steps)?;
         found = found.offer(place, ratio, ties);
     }
     Ok(found)

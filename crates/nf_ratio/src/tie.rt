@@ -25,7 +25,7 @@ impl Found {
     }
 
     // One candidate more, if it has a ratio.
-    pub(crate) fn offer_if(self, place: usize, ratio: Option<Frac>, ties: &mut [usize]) -> Found
+    pub(crate) fn offer_if(self, place: u32, ratio: Option<Frac>, ties: &mut [u32]) -> Found
         requires room { self.count < length ties.old }
         ensures size { length ties.new ≡ length ties.old }
         ensures offered { IsOfferedIf self ties.old place ratio result ties.new }
@@ -37,7 +37,7 @@ impl Found {
     }
 
     // One candidate more: a lesser ratio begins the list anew, an equal one joins it, and a greater one is left out.
-    pub(crate) fn offer(self, place: usize, ratio: Frac, ties: &mut [usize]) -> Found
+    pub(crate) fn offer(self, place: u32, ratio: Frac, ties: &mut [u32]) -> Found
         requires room { self.count < length ties.old }
         ensures size { length ties.new ≡ length ties.old }
         ensures offered { IsOffered self ties.old place ratio result ties.new }

@@ -5,14 +5,14 @@ use nf_frac::Frac;
 use std::alloc::{AllocError, Global};
 use std::marker::Model;
 
-/// Three lists, with a place for each row of a stage: the entries of the column that enters, an inverse column, and the
-/// slots of the columns that tie, with one place more for the column that enters itself. It is seen as how many rows
+/// Three lists, with a place for each row of a stage: the entries of the column that enters, the weights of an inverse
+/// column in the slots that tie, and these slots, with one place more for the column that enters itself. It is seen as how many rows
 /// there are.
 #[derive(Drop)]
 pub struct Work3 {
     pub(crate) entries: Vec<Frac>,
     pub(crate) weights: Vec<Frac>,
-    pub(crate) ties: Vec<usize>,
+    pub(crate) ties: Vec<u32>,
 }
 
 impl Model for Work3 {

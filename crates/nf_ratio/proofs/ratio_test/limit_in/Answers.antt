@@ -1,4 +1,4 @@
-use Rattle.std.proofs.Common.{◌≡◌, ℕ, suc, ◌+◌, ◌*◌, ◌<◌, ◌≤◌, length, sym, ◌∙◌, subst, subst₂}
+use Rattle.std.proofs.Common.{ℕ, suc, ◌+◌, ◌*◌, ◌<◌, ◌≤◌, length, sym, ◌∙◌, subst, subst₂}
 use Rattle.nf_simplex.specs.Moves.{CanEnterIn}
 use Rattle.nf_simplex.specs.Size.{size}
 use Rattle.nf_basis.specs.Names.{col_of}

@@ -1,4 +1,4 @@
-use Rattle.std.proofs.Common.{◌≡◌, ◌+◌, ◌<◌, suc, length, sym, subst, arith}
+use Rattle.std.proofs.Common.{length, subst, arith}
 use Rattle.nf_sums.proofs.Up.{handed_on}
 use Rattle.nf_ratio.specs.Ties.{IsOfferedIf}
 use Rattle.nf_ratio.proofs.Causes.{span_passed}

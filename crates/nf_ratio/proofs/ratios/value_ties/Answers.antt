@@ -1,6 +1,5 @@
-use Rattle.std.proofs.Common.{◌≡◌, ◌+◌, ◌<◌, length, sym, ◌∙◌, subst, arith}
+use Rattle.std.proofs.Common.{sym, arith}
 use Rattle.nf_ratio.specs.Loops.{first_ratio}
-use Rattle.nf_ratio.specs.Ties.{AreLeast}
 use Rattle.nf_ratio.proofs.Offers.{none_yet, offered_if}
 use Rattle.nf_ratio.proofs.ratios.value_ties.Goals as goal
 
