@@ -5,6 +5,7 @@ pub mod Accumulate
 pub mod Vertices
 pub mod Depths
 pub mod Paths
+pub mod Trails
 pub mod Priced
 pub mod Slotted
 pub mod Passing

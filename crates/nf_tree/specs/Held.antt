@@ -9,13 +9,15 @@ use Rattle.nf_basis.specs.Kept.{IsPresent, IsStateOf}
 use Rattle.nf_basis.specs.Numbers.{in_slot, ListBasics}
 use Rattle.nf_basis.specs.Dense.{HasBasics}
 use Rattle.nf_tree.specs.declared.tree.Tree.{Tree}
-use Rattle.nf_tree.specs.Links.{HasSpan, IsTreeOf}
+use Rattle.nf_tree.specs.Links.{AreZeros, HasSpan, IsTreeOf}
 
--- There is room for a tree over n nodes, and for a column.
+-- There is room for a tree over n nodes, for a column, and for a path, whose weights are 0 between calls.
 pub record HasRoom (n : ℕ) (b : Tree) : Type 0 where
   pub span : HasSpan n b.span
   pub keys : length b.keys.items ≡ n
   pub work : length b.work.items ≡ n
+  pub weights : AreZeros n b.weights.items
+  pub trail : length b.trail.items ≡ n
 
 -- A tree has the numbers of its state in p.
 pub record HoldsTree (p : LinearProgram) (b : Tree) : Type 0 where

@@ -74,6 +74,19 @@ pub record IsMidway (p : LinearProgram) (s : Standing) (slots : List Col) (m : L
   pub below_to : (w : ℕ) → w < p.nodes → at out w ≢ zero_ℚ → slice_index m.depth v ≤ slice_index m.depth (suc w)
   pub beside : (w : ℕ) → w < p.nodes → at out w ≢ zero_ℚ → suc w ≢ v
 
+-- All of n weights are 0.
+pub record AreZeros (n : ℕ) (out : List ℚ) : Type 0 where
+  pub long : length out ≡ n
+  pub zeros : (k : ℕ) → at out k ≡ zero_ℚ
+
+-- The first of a trail are slots below n.
+abbrev pub AreSlotsOf : ℕ → List ℕ → ℕ → Type 0
+AreSlotsOf n trail count = (k : ℕ) → k < count → slice_index trail k < n
+
+-- Each slot whose weight is not 0 stands in the trail, at a place from `done` on and below `count`.
+abbrev pub ListsWeights : List ℕ → ℕ → ℕ → List ℚ → Type 0
+ListsWeights trail done count out = (w : ℕ) → at out w ≢ zero_ℚ → (k : ℕ) × (done ≤ k) × (k < count) × (slice_index trail k ≡ w)
+
 -- ---- potentials
 -- The potentials of vertices: 0 at the root, and along the column of each slot its cost, by slot.
 pub record ArePricesOf (p : LinearProgram) (s : Standing) (slots : List Col) (m : LinkMap) (costs pot : ℕ → ℚ) : Type 0 where

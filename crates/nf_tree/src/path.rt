@@ -8,7 +8,7 @@ ghost use Rattle.nf_basis.specs.Kept.{IsPresent, IsStateOf};
 ghost use Rattle.nf_basis.specs.Numbers.{in_slot, slot_number};
 ghost use Rattle.nf_tree.specs.Network.{turn};
 ghost use Rattle.nf_tree.specs.Vertices.{tail_at};
-ghost use Rattle.nf_tree.specs.Links.{GiveBetween, IsMidway, IsTreeOf};
+ghost use Rattle.nf_tree.specs.Links.{AreSlotsOf, AreZeros, GiveBetween, IsMidway, IsTreeOf, ListsWeights};
 
 use crate::ends::{column_in, tail_of};
 use nf_basis::{Col, State};
@@ -59,6 +59,58 @@ fn pass<L: Ledger>(
     let turn = turn_of(p, state, slots, node);
     out[node as usize - 1] = if down { turn.neg() } else { turn };
     links.get(Field::Pred, node, steps)
+}
+
+/// Writes the weights of a node's inverse column, those of the path from it to the root, into a list of zeros, and the
+/// slots of this path into `trail`. It returns how many they are.
+pub(crate) fn climb<L: Ledger>(
+    p: &Problem,
+    state: &State,
+    slots: &[Col],
+    order: &[usize],
+    links: &Links,
+    from: u32,
+    out: &mut [Frac],
+    trail: &mut [usize],
+    steps: &mut Steps<L>,
+) -> usize
+    requires state { IsStateOf p.now state.now }
+    requires stage { state.now.standing.stage ≡ StageOne }
+    requires slots { length slots.now ≡ p.now.nodes }
+    requires present { (k : ℕ) → k < p.now.nodes → IsPresent p.now state.now.standing (in_slot slots.now k) }
+    requires tree { IsTreeOf p.now state.now.standing slots.now order.now links.now }
+    requires from { from ≤ p.now.nodes }
+    requires zeros { AreZeros p.now.nodes out.old }
+    requires room { length trail.old ≡ p.now.nodes }
+    ensures long { length out.new ≡ p.now.nodes }
+    ensures gives { GiveBetween p.now state.now.standing slots.now from 0 out.new }
+    ensures room { length trail.new ≡ p.now.nodes }
+    ensures within { result ≤ p.now.nodes }
+    ensures slots { AreSlotsOf p.now.nodes trail.new result }
+    ensures listed { ListsWeights trail.new 0 result out.new }
+    ensures cost { steps.new ≤ steps.old + p.now.nodes }
+{
+    // There are fewer nodes than 2^31, so their slots can be counted.
+    let _rows = p.rows();
+    let (mut u, mut count) = (from, 0);
+    while u != 0 {
+        trail[count] = u as usize - 1;
+        count += 1;
+        u = pass(p, state, slots, links, u, false, out, steps);
+    }
+    count
+}
+
+/// Sets the weights in the first slots of the trail back to 0; all others are 0.
+pub(crate) fn wipe(trail: &[usize], count: usize, out: &mut [Frac])
+    requires within { count ≤ length trail.now }
+    requires slots { AreSlotsOf (length out.old) trail.now count }
+    requires listed { ListsWeights trail.now 0 count out.old }
+    ensures zeros { AreZeros (length out.old) out.new }
+{
+    for k in 0..count {
+        out[trail[k]] = Frac::zero();
+    }
 }
 
 // Sets all to 0.

@@ -11,6 +11,7 @@ ghost use Rattle.nf_basis.specs.Numbers.{ListBasics};
 ghost use Rattle.nf_basis.specs.Arising.{LoadTerms};
 ghost use Rattle.nf_basis.specs.AtBounds.{rests_cost};
 ghost use Rattle.nf_tree.specs.Held.{HasRoom, HoldsTree, IsPlanted};
+ghost use Rattle.nf_tree.specs.Links.{AreZeros};
 
 use crate::plant::arrange;
 use crate::solving::tree_solve;
@@ -38,6 +39,22 @@ fn no_numbers(alloc: Global, n: u32) -> Result<Vec<Frac>, AllocError>
     Ok(numbers)
 }
 
+// Weights of n slots, all of them 0.
+fn no_weights(alloc: Global, n: u32) -> Result<Vec<Frac>, AllocError>
+    ensures { IfOk result (λ v. AreZeros n v.items) }
+{
+    let weights = vec![in alloc; Frac::zero(); n as usize]?;
+    Ok(weights)
+}
+
+// Room for a path of n slots.
+fn no_trail(alloc: Global, n: u32) -> Result<Vec<usize>, AllocError>
+    ensures { IfOk result (λ v. length v.items ≡ n) }
+{
+    let trail = vec![in alloc; 0; n as usize]?;
+    Ok(trail)
+}
+
 impl Tree {
     // These keys, with room for their slots, their values and their links.
     pub(crate) fn with_keys(
@@ -61,6 +78,8 @@ impl Tree {
             span: Span::new(alloc, n)?,
             keys,
             work: no_numbers(alloc, n)?,
+            weights: no_weights(alloc, n)?,
+            trail: no_trail(alloc, n)?,
         })
     }
 

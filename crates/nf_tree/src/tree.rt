@@ -13,7 +13,7 @@ ghost use Rattle.nf_tree.specs.Held.{HasRoom, HoldsTree};
 
 use crate::ends::column_in;
 use crate::moving::{entries_of, exchange, shift};
-use crate::path::path_between;
+use crate::path::{climb, path_between, wipe};
 use crate::plant::{arrange, arrange_numbers, copy};
 use crate::potentials::potentials;
 use crate::span::Span;
@@ -39,6 +39,9 @@ pub struct Tree {
     pub(crate) span: Span,
     pub(crate) keys: Vec<Col>,
     pub(crate) work: Vec<Frac>,
+    // Of a path to the root: the weights by slot, which are all 0 between calls, and its slots.
+    pub(crate) weights: Vec<Frac>,
+    pub(crate) trail: Vec<usize>,
 }
 
 // The costs of the columns in the slots.
@@ -125,7 +128,7 @@ impl Tree {
         );
     }
 
-    // The weights of chosen slots in an inverse column.
+    // The weights of chosen slots in an inverse column: only the path to the root is walked, there and back.
     pub(crate) fn root_weights<L: Ledger>(
         &mut self,
         p: &Problem,
@@ -143,20 +146,21 @@ impl Tree {
         ensures slots { self.new.slots.items ≡ self.old.slots.items }
         ensures values { self.new.values.items ≡ self.old.values.items }
         ensures weights { AreInverseWeights p.now self.old.state.standing self.old.slots.items row chosen.now out.new }
-        ensures cost { steps.new ≤ steps.old + 6 * p.now.nodes + 2 }
+        ensures cost { steps.new ≤ steps.old + p.now.nodes }
     {
-        path_between(
+        let count = climb(
             p,
             &self.state,
             self.slots.as_slice(),
             self.span.grove.order.as_slice(),
             &self.span.grove.links,
             row,
-            0,
-            self.work.as_mut_slice(),
+            self.weights.as_mut_slice(),
+            self.trail.as_mut_slice(),
             steps,
         );
-        pick(self.work.as_slice(), chosen, out);
+        pick(self.weights.as_slice(), chosen, out);
+        wipe(self.trail.as_slice(), count, self.weights.as_mut_slice());
     }
 
     // The duals of a phase, by row: the potentials for its costs.

@@ -78,5 +78,7 @@ returns-clause-numbers g c =
         span = a.room;
         keys = c.copy.ensures.long_keys ∙ (ap length c.as_slice.ensures.value ∙ nodes);
         work = c.copy.ensures.long_work ∙ (ap length c.as_slice.ensures.value ∙ nodes);
+        weights = c.requires.room.weights;
+        trail = c.requires.room.trail;
       };
     }

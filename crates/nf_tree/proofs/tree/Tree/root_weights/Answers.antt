@@ -10,11 +10,11 @@ returns-clause-weights g c =
     let p = c.args.p.now in
     let b = c.args.self.now in
     let h = c.requires.numbers in
-    let xs = c.path_between.new.out in
-    let len : length xs ≡ b.work.len = search rules in
-    let found = inverse_by_path p b.state.standing b.slots.items h.state.problem h.stage h.held.listed c.args.row c.requires.present.0 xs (rw (sym c.as_slice.ensures.value) c.path_between.ensures.gives) in
+    let xs = c.climb-count.new.out in
+    let len : length xs ≡ b.weights.len = search rules in
+    let found = inverse_by_path p b.state.standing b.slots.items h.state.problem h.stage h.held.listed c.args.row c.requires.present.0 xs (rw (sym c.as_slice.ensures.value) c.climb-count.ensures.gives) in
     record {
       weights = found.weights;
       are_weights = found.are_weights;
-      by_slot = λ k m. c.pick.ensures k m ∙ (ap (λ ys. at ys (slice_index_or c.args.chosen.now k 0)) (c.as_slice-3.ensures.value ∙ with_items_is b.work xs len) ∙ found.by_slot (slice_index_or c.args.chosen.now k 0) (subst (λ n. slice_index_or c.args.chosen.now k 0 < n) (sym (rows_are p b.state.standing h.stage)) (c.requires.chosen.within k m)));
+      by_slot = λ k m. c.pick.ensures k m ∙ (ap (λ ys. at ys (slice_index_or c.args.chosen.now k 0)) (c.as_slice-3.ensures.value ∙ with_items_is b.weights xs len) ∙ found.by_slot (slice_index_or c.args.chosen.now k 0) (subst (λ n. slice_index_or c.args.chosen.now k 0 < n) (sym (rows_are p b.state.standing h.stage)) (c.requires.chosen.within k m)));
     }

@@ -45,5 +45,5 @@ returns-clause-numbers g c =
       stage = ap (λ t. t.stage) same ∙ h.stage;
       held = subst (λ t. HasBasics p t b.slots.items final) (sym same) (subst (λ xs. HasBasics p (flipped p s (col_of c.args.entering)) b.slots.items xs) back shifted);
       tree = subst (λ t. IsTreeOf p t b.slots.items b.span.grove.order.items b.span.grove.links) (sym same) (tree_placed p s (number p c.args.entering) (other_bound (place_of p s (col_of c.args.entering))) b.slots.items b.span.grove.order.items b.span.grove.links h.tree);
-      room = record { span = h.room.span; keys = h.room.keys; work = sym (length_refill b.work.len b.work.items c.shift.new.work len) ∙ (len ∙ h.room.work) };
+      room = record { span = h.room.span; keys = h.room.keys; work = sym (length_refill b.work.len b.work.items c.shift.new.work len) ∙ (len ∙ h.room.work); weights = h.room.weights; trail = h.room.trail };
     }
