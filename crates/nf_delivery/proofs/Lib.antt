@@ -1,0 +1,2 @@
+mod StoreFacts
+pub mod DeliveryFacts

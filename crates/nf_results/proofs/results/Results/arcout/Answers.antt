@@ -1,0 +1,7 @@
+use Rattle.nf_results.proofs.OfState.{arcs-right, carried}
+use Rattle.nf_results.proofs.results.Results.arcout.Goals as goal
+
+pub returns : goal.returns
+returns c = record {
+  table = carried c.arcout.result _ _ (arcs-right c.args.p.now c.args.labels.now c.args.state.now.standing c.args.self.now c.requires.results c.args.future c.by_arc.result c.by_arc.ensures.lists) c.arcout.ensures.table;
+}
