@@ -1,13 +1,16 @@
 -- What runs of the two stages make of a RUN.
 use Rattle.std.proofs.Common.{◌≡◌, ◌∙◌, ℕ, inl, inr, Option, refl, sym, ap, subst, subst₂}
 use Rattle.nf_model.specs.Program.{LinearProgram}
-use Rattle.nf_simplex.specs.StageOf.{StageNumber, StageOne, StageTwo}
+use Rattle.nf_simplex.specs.Layout.{layout_of}
+use Rattle.nf_simplex.specs.StageOf.{HasStageTwo, StageNumber, StageOne, StageTwo}
 use Rattle.nf_simplex.specs.Standing.{Standing}
 use Rattle.nf_basis.specs.declared.start.StartFault.{StartFault}
 use Rattle.nf_basis.specs.declared.start.StartFault.TheVariants as starting
 use Rattle.nf_prob.specs.declared.cert.Cert.{Cert}
 use Rattle.nf_program.specs.declared.program.SessionOptions.{SessionOptions}
 use Rattle.nf_engine.specs.declared.halt.Halt.{Halt}
+use Rattle.nf_engine.specs.declared.halt.Halt.TheVariants.{Ended, Feasible, Limit, Pause}
+use Rattle.nf_engine.specs.declared.halt.Moved.TheVariants.{Best, Flipped, NoBound, NoFlow, Pivoted}
 use Rattle.nf_engine.specs.Point.{Point}
 use Rattle.nf_engine.specs.Run.{PassesAt}
 use Rattle.nf_stage_two.specs.Starting.{IsSecondFaultOf}
@@ -51,6 +54,17 @@ stage_fails p o n w earlier a fault.Write is at h = absurd h
 stage_fails p o n w earlier a fault.NoMemory is at h = tt
 
 -- ---- the start of stage two
+-- Stage one is over only if stage two is to come.
+pub over_has_two : (p : LinearProgram) (halt : Halt) → IsOver p StageOne halt → HasStageTwo (layout_of p)
+over_has_two p (Ended Best) h = h
+over_has_two p (Ended (NoBound c)) h = h
+over_has_two p (Ended NoFlow) h = absurd h
+over_has_two p (Ended (Pivoted entering leaving)) h = absurd h
+over_has_two p (Ended (Flipped c)) h = absurd h
+over_has_two p Limit h = absurd h
+over_has_two p Pause h = absurd h
+over_has_two p Feasible h = absurd h
+
 pub start_fails : (p : LinearProgram) (s : Standing) (f : StartFault) (g : RunFault) → IsSecondFaultOf p s f → g ≡ starting_fault f → IsStartingFault p s g
 start_fails p s (starting.Passed passed) g h is = subst (IsStartingFault p s) (sym is) (refl, refl, h)
 start_fails p s starting.NoMemory g h is = subst (IsStartingFault p s) (sym is) tt

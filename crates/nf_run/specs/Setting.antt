@@ -2,7 +2,8 @@
 -- that a run is of. Each RUN is said to be one under these.
 use Rattle.std.specs.Prelude.{ℕ, ◌≤◌, cond, length, ltb}
 use Rattle.nf_model.specs.Program.{LinearProgram}
-use Rattle.nf_simplex.specs.StageOf.{StageNumber, StageOne, StageTwo}
+use Rattle.nf_simplex.specs.Layout.{layout_of}
+use Rattle.nf_simplex.specs.StageOf.{HasStageTwo, StageNumber, StageOne, StageTwo}
 use Rattle.nf_simplex.specs.Standing.{Standing}
 use Rattle.nf_program.specs.declared.program.PriceType.{PriceType}
 use Rattle.nf_program.specs.declared.program.PriceType.TheVariants as price
@@ -31,6 +32,6 @@ setting_in o StageTwo = record { stage = 2; rule = rule_for o.pricetype2 o.queue
 abbrev pub setting_of : SessionOptions → Standing → Setting
 setting_of o s = setting_in o s.stage
 
--- The problem has at most so many rows that a whole inverse is kept.
+-- If the problem has a stage two, it has so many rows at most, as a whole inverse is kept there.
 pub record IsPlain (p : LinearProgram) : Type 0 where
-  pub few_rows : length p.rows ≤ 1000
+  pub few_rows : HasStageTwo (layout_of p) → length p.rows ≤ 1000

@@ -1,5 +1,5 @@
 //! One RUN, in one stage or over the end of stage one.
-ghost use Rattle.std.specs.Prelude.{◌≡◌, ◌↔◌, IfOk, IfErr, IsTrue};
+ghost use Rattle.std.specs.Prelude.{◌≡◌, ◌↔◌, ◌≤◌, IfOk, IfErr, IsTrue, length};
 ghost use Rattle.nf_simplex.specs.StageOf.{StageOne, StageTwo};
 ghost use Rattle.nf_simplex.specs.Standing.{IsFeasibleState};
 ghost use Rattle.nf_basis.specs.Dense.{HoldsNumbers};
@@ -184,7 +184,8 @@ fn at_pivots(stage: u8, pivots: u64, fault: CertOfFault) -> RunFault
     }
 }
 
-// Starts stage two after the state of a basis of stage one, with the room of its queue.
+// Starts stage two after the state of a basis of stage one, with the room of its queue. There are at most 1,000 rows, as
+// a whole inverse is kept.
 fn start_stage_two<B: Basis, L: Ledger>(
     alloc: Global,
     p: &Problem,
@@ -192,7 +193,7 @@ fn start_stage_two<B: Basis, L: Ledger>(
     queue: Queue,
     steps: &mut Steps<L>,
 ) -> Result<StagePoint<DenseBasis>, RunFault>
-    requires plain { IsPlain p.now }
+    requires few { length p.now.rows ≤ 1000 }
     requires ready { IsReadyIn p.now B.HasNumbers B.standing StageOne first }
     ensures ready { IfOk result (λ q. IsReadyIn p.now HoldsNumbers (λ b. b.state.standing) StageTwo q.basis) }
     ensures starts { IfOk result (λ q. StartsTwo p.now (B.standing first) q.basis.state.standing) }

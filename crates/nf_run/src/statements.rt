@@ -12,12 +12,13 @@ use crate::line::halt_text;
 use crate::opening::open;
 use crate::run::run;
 use crate::session::{InStage, Session, StagePoint};
-use nf_basis::{Basis, DenseBasis};
+use nf_basis::Basis;
 use nf_frac::Steps;
 use nf_io::{Library, PutFault, Sink, write_all};
 use nf_price::Queue;
 use nf_prob::Problem;
 use nf_program::{SessionOptions, Statement};
+use nf_tree::Tree;
 use std::alloc::Global;
 use std::marker::Brand;
 use std::sync::ledger::{Blank, Ledger};
@@ -29,8 +30,9 @@ use std::sync::ledger::{Blank, Ledger};
 /// A RUN makes one step of the simplex method after another until a halt is due, and writes it with the pivots so far:
 /// `OPTIMAL` with the cost of the flows, `INFEASIBLE` with the gap or `UNBOUNDED` with the rate, once the certificate
 /// that proves it has been checked; or the limit or the pause that the program has set. Where the problem has side rows or
-/// nonarc variables, stage two starts where stage one has ended, if this is not infeasible, and the RUN goes on in it. The
-/// problem has at most 1,000 rows.
+/// nonarc variables, stage two starts where stage one has ended, if this is not infeasible, and the RUN goes on in it. Such
+/// a problem has at most 1,000 rows. Stage one steps over the spanning tree of its basic columns, and stage two over a
+/// whole inverse.
 ///
 /// `Range` comes only where an operation passes 128 bits that arises from the state of this run after so many pivots of
 /// the stage that it names; at the first pivot of stage two also from the last state of stage one;
@@ -59,9 +61,7 @@ pub fn run_program<K: Sink, D: Library>(
     ensures ok { OnOk result (ListsAll p.now options.now acts.now (option_copied certout.entry) (K.written listing.old) (K.written listing.new) (D.held library.old) (D.held library.new)) }
     ensures stops { IfErr result (StopsWith p.now options.now acts.now (option_copied certout.entry) (K.written listing.old) (K.written listing.new) (K.faults listing.old) (K.faults listing.new) (D.held library.old) (D.held library.new) (D.store_faults library.old) (D.store_faults library.new)) }
 {
-    // the nodes are among the rows, so the dense basis takes them
-    let _rows = p.rows();
-    obey_all::<DenseBasis, Brand, K, D>(
+    obey_all::<Tree, Brand, K, D>(
         alloc,
         p,
         options,

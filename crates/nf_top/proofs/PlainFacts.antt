@@ -1,10 +1,11 @@
--- The problem of a program's tables, and that it has few rows.
-use Rattle.std.proofs.Common.{◌≡◌, ◌<◌, ◌≤◌, ℕ, Bool, true, false, List, [], Option, None, Some, length, Result, Ok, Err, if◌then◌else◌, refl, ap, ◌∙◌, subst, arith}
+-- The problem of a program's tables, and that it has few rows if it has a stage two.
+use Rattle.std.proofs.Common.{◌≡◌, ◌<◌, ◌≤◌, ℕ, Bool, true, false, List, [], Option, None, Some, length, Result, Ok, Err, if◌then◌else◌, refl, ap, ◌∙◌, subst, arith, inl, inr}
 use Rattle.std.proofs.lemmas.Bool.Decides.{nat_tests}
 use Rattle.std.specs.Bool.{nat_lt}
 use Rattle.nf_table.specs.Grid.{Grid}
 use Rattle.nf_table.specs.Reading.{table_read}
 use Rattle.nf_table.specs.declared.table.TableFault.{TableFault}
+use Rattle.nf_program.specs.declared.program.ProcOptions.{ProcOptions}
 use Rattle.nf_program.specs.declared.program.Program.{Program}
 use Rattle.nf_program.specs.declared.program.SetName.{SetName}
 use Rattle.nf_program.specs.declared.program.SetName.TheVariants.{Arcdata, Nodedata, Condata}
@@ -13,7 +14,11 @@ use Rattle.nf_roles.specs.declared.fault.DataFault.{DataFault}
 use Rattle.nf_roles.specs.declared.fault.RoleFault.{RoleFault}
 use Rattle.nf_roles.specs.Assigned.{roles_due}
 use Rattle.nf_roles.specs.Roles.{RoleColumns}
-use Rattle.nf_network.specs.Network.{Network, network_due, no_roles, no_table}
+use Rattle.nf_network.specs.Network.{Network, first_fault, network_due, network_of, no_roles, no_table, unless_fault}
+use Rattle.nf_network.specs.Rows.{arc_rows, node_rows}
+use Rattle.nf_model.specs.Program.{LinearProgram}
+use Rattle.nf_simplex.specs.Layout.{layout_of}
+use Rattle.nf_simplex.specs.StageOf.{HasStageTwo}
 use Rattle.nf_run.specs.Setting.{IsPlain}
 use Rattle.nf_top.specs.ProblemOf.{Refusal, Sets as ProblemSets, OfData, OfTable, header_in, in_data, in_roles, in_set, in_size, layout, most_rows, problem_in, problem_of, size_fault, table_of, then_with, where_there, with_cons, with_constraints, with_nodes}
 use Rattle.nf_top.specs.Data.{AreTables, Grids, IsTableOrNone, Sets, data_of}
@@ -56,13 +61,17 @@ no-data : (r : Result Network DataFault) (next : Network → Result Network Refu
 no-data (Ok n) next s f none h = none n h
 no-data (Err e) next s f none h = cc h
 
+data-only : (r : Result Network DataFault) (s : SetName) (f : TableFault) → in_data r ≡ Err (OfTable s f) → ⊥
+data-only (Ok n) s f h = cc h
+data-only (Err e) s f h = cc h
+
 no-roles : (q : SetName) (r : Result RoleColumns RoleFault) (next : RoleColumns → Result Network Refusal) (s : SetName) (f : TableFault)
     → ((x : RoleColumns) → next x ≡ Err (OfTable s f) → ⊥) → then_with (in_roles q r) next ≡ Err (OfTable s f) → ⊥
 no-roles q (Ok x) next s f none h = none x h
 no-roles q (Err e) next s f none h = cc h
 
 no-cons : (p : Program) (ar : RoleColumns) (a : Grid) (nr : RoleColumns) (t : Grid) (cons : Option Grid) (s : SetName) (f : TableFault) → with_cons p ar a nr t cons ≡ Err (OfTable s f) → ⊥
-no-cons p ar a nr t None s f h = no-data (network_due p.proc ar a nr t) in_size s f (λ n k. no-size n s f k) h
+no-cons p ar a nr t None s f h = data-only (network_due p.proc ar a nr t) s f h
 no-cons p ar a nr t (Some g) s f h =
     no-roles Condata (roles_due (layout p.proc) g.header [] p.roles) _ s f
     (λ r k. no-data (network_due p.proc ar a nr t) _ s f (λ n l. no-data (with_constraints p.proc n r g) in_size s f (λ m j. no-size m s f j) l) k) h
@@ -76,7 +85,7 @@ pub no-table : (p : Program) (a : Grid) (nodes cons : Option Grid) (s : SetName)
 unfolding problem_in
 no-table p a nodes cons s f h = no-roles Arcdata (roles_due Arcs a.header (header_in cons) p.roles) _ s f (λ ar k. no-nodes p ar a nodes cons s f k) h
 
--- ---- it has few rows
+-- ---- it has no stage two, or few rows
 pub too-many : (n : Network) → most_rows < length n.program.rows → in_size n ≡ Err (OfData size_fault)
 too-many n many =
     let e : nat_lt most_rows (length n.program.rows) ≡ true = grind (arith, nat_tests, many) in
@@ -93,10 +102,29 @@ plain_sized : (d : Result Network Refusal) (n : Network) → then_with d in_size
 plain_sized d n h =
     let e = then_ok d in_size n h in
     let s = sized_ok e.0 n e.2 in
-    subst (λ m. IsPlain m.program) s.0 (record { few_rows = s.1 })
+    subst (λ m. IsPlain m.program) s.0 (record { few_rows = λ two. s.1 })
+
+-- A network alone has no side rows and no nonarc variables.
+no_second : (q : LinearProgram) → length q.rows ≡ q.nodes → q.arcs ≡ length q.columns → HasStageTwo (layout_of q) → ⊥
+no_second q rows columns (inl side) = omega (arith, rows, side)
+no_second q rows columns (inr nonarc) = omega (arith, columns, nonarc)
+
+unless_ok : (f : Option DataFault) (m n : Network) → unless_fault f m ≡ Ok n → m ≡ n
+unless_ok None m n h = cc h
+unless_ok (Some f) m n h = cc h
+
+plain_network : (o : ProcOptions) (ar : RoleColumns) (a : Grid) (nr : RoleColumns) (t : Grid) (n : Network) → network_due o ar a nr t ≡ Ok n → IsPlain n.program
+unfolding network_due
+plain_network o ar a nr t n h =
+    let m = network_of o (arc_rows ar a.rows) (node_rows nr t.rows) ar.ids a in
+    subst (λ (q : Network). IsPlain q.program) (unless_ok (first_fault o ar a nr t) m n h) (record { few_rows = λ two. absurd (no_second m.program refl refl two) })
+
+data_ok : (r : Result Network DataFault) (n : Network) → in_data r ≡ Ok n → r ≡ Ok n
+data_ok (Ok m) n h = ap Ok (cc h)
+data_ok (Err f) n h = cc h
 
 plain_cons : (p : Program) (ar : RoleColumns) (a : Grid) (nr : RoleColumns) (t : Grid) (cons : Option Grid) (n : Network) → with_cons p ar a nr t cons ≡ Ok n → IsPlain n.program
-plain_cons p ar a nr t None n h = plain_sized (in_data (network_due p.proc ar a nr t)) n h
+plain_cons p ar a nr t None n h = plain_network p.proc ar a nr t n (data_ok (network_due p.proc ar a nr t) n h)
 plain_cons p ar a nr t (Some g) n h =
     let r = then_ok (in_roles Condata (roles_due (layout p.proc) g.header [] p.roles)) _ n h in
     let d = then_ok (in_data (network_due p.proc ar a nr t)) _ n r.2 in

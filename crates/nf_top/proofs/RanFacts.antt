@@ -1,5 +1,5 @@
 -- What a run takes in is told in one way, so an accepted program is not refused.
-use Rattle.std.proofs.Common.{◌≡◌, ◌∙◌, ◌<◌, ◌⊎◌, ℕ, List, Option, None, Some, Err, inl, inr, length, arith, refl, sym, ap, subst}
+use Rattle.std.proofs.Common.{◌≡◌, ◌∙◌, ◌<◌, ◌⊎◌, ℕ, true, List, Option, None, Some, Err, inl, inr, is_some, length, arith, refl, sym, ap, subst}
 use Rattle.std.specs.Io.KnownBytes.{Consumes, IsAtEnd}
 use Rattle.nf_io.specs.Causes.{Rose}
 use Rattle.nf_io.specs.Held.{Held, HasName}
@@ -26,6 +26,7 @@ use Rattle.nf_top.specs.Standing.{IsStanding, SetNames, StandsForRun, most_progr
 use Rattle.nf_top.specs.Words.{IsCommand}
 use Rattle.nf_top.proofs.CompleteFacts.{all-consumed, data-same, front-consumed, has-set, held-same, held-there, never-both, never-lacks, never-many, never-posed, some-same, table-short}
 use Rattle.nf_top.proofs.PlainFacts.{arcs_table, cons_table, nodes_table}
+use Rattle.nf_top.proofs.RangeFacts.{run_names}
 use Rattle.nf_top.proofs.WordFacts.{not-both, one-command}
 
 run-program-same : (i : Input) (problem : LinearProgram) (k : IsAccepted i problem) (q : Program) → ReadsProgram i Run q → q ≡ k.program
@@ -153,7 +154,9 @@ runs-accepted c status.ReadFault h = λ p n w k. absurd (run-not-refused c.input
 runs-accepted c status.WriteFault (inl h) = λ p n w k. absurd (n.listing h.0)
 runs-accepted c status.WriteFault (inr h) = λ p n w k. absurd (w h.0)
 runs-accepted c status.Absent (name, (h, l, kept)) = λ p n w k. absurd (run-not-refused c.input p k n.source n.library (refusal.Absent name) h)
-runs-accepted c status.RangePassed h = λ p n w k. inr (inl refl)
+runs-accepted c status.RangePassed (inl (passed, (h, l, kept))) = λ p n w k. absurd (run-not-refused c.input p k n.source n.library (refusal.Range passed) h)
+runs-accepted c status.RangePassed (inr (program, problem, runs, front, stage, pivots, passed, cut, of_two, listed, kept)) =
+    λ p n w k. inr (inl (refl, subst (λ q. is_some q.proc.condata ≡ true) (run-program-same c.input p k program runs.reads) (run_names c.input program problem runs of_two.exists)))
 runs-accepted c status.CheckRefused (inl (fault, (h, l, kept))) = λ p n w k. absurd (run-not-refused c.input p k n.source n.library (refusal.NoCertificate fault) h)
 runs-accepted c status.CheckRefused (inr (why, (h, l, kept))) = λ p n w k. absurd (run-not-refused c.input p k n.source n.library (refusal.NotValid why) h)
 runs-accepted c status.NoMemory h = λ p n w k. inr (inr refl)

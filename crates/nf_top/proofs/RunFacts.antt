@@ -21,6 +21,7 @@ use Rattle.nf_run.specs.declared.line.HaltLine.{HaltLine}
 use Rattle.nf_run.specs.declared.line.HaltLine.TheVariants as line
 use Rattle.nf_run.specs.Endings.{HasProof, IsDue as IsDueAtEnd, Stores}
 use Rattle.nf_run.specs.Runs.{Event, IsCut}
+use Rattle.nf_no_range.specs.Law.{IsOfStageTwo}
 use Rattle.nf_run.specs.Stops.{ListsAll, ListsFront, ListsPart, StopsAtStore, StopsWith}
 use Rattle.nf_run.specs.Verdicts as run
 use Rattle.nf_top.specs.declared.status.Status.TheVariants as status
@@ -92,9 +93,9 @@ put_after old mid new text more h k = (
 )
 
 module _ (c : Call) (program : Program) (problem : LinearProgram) (front : List ℕ) (stage pivots : ℕ) (passed : Passed) (mid : Option (List ℕ)) (runs : RunsOn c.input program problem)
-    (cut : IsCut problem program.proc.session program.acts front stage pivots passed) (listed : Appends c.written mid front) (kept : KeepsLibrary c) where
+    (cut : IsCut problem program.proc.session program.acts front stage pivots passed) (of_two : IsOfStageTwo problem stage passed) (listed : Appends c.written mid front) (kept : KeepsLibrary c) where
   pub range_told : (line : List ℕ) → line ≡ step_range_line stage pivots passed → Appends mid c.put line → Comes c status.RangePassed
-  range_told line is told = inr (program, problem, runs, front, stage, pivots, passed, cut, appends-more c.written mid c.put front (step_range_line stage pivots passed) listed (subst (Appends mid c.put) is told), kept)
+  range_told line is told = inr (program, problem, runs, front, stage, pivots, passed, cut, of_two, appends-more c.written mid c.put front (step_range_line stage pivots passed) listed (subst (Appends mid c.put) is told), kept)
 
   pub range_failed : (line : List ℕ) (then : ℕ) → line ≡ step_range_line stage pivots passed → c.sink_faults ≤ then → Rose then c.sink_faults_after → PutPrefix mid c.put line → Comes c status.WriteFault
   range_failed line then is later rose told = inl (

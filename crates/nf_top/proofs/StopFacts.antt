@@ -277,6 +277,13 @@ sized-posed d b q (n, due, is) (same, fits) =
     next-posed d n in_size q due
     (n, subst (λ x. in_size (record { program = x; labels = n.labels }) ≡ Ok (record { program = x; labels = n.labels })) is (fits n.labels), same ∙ is)
 
+pub same-posed : (d : Result Network ProblemRefusal) (b q : LinearProgram) → IsPosed d b → q ≡ b → IsPosed d q
+same-posed d b q (n, due, is) same = (n, due, same ∙ is)
+
+-- want of memory stops each call
+pub starved-stop : (d : Result Network ProblemRefusal) (s : Stop) → s ≡ stop.NoMemory → IsStopOf d s
+starved-stop d s h = subst (IsStopOf d) (sym h) tt
+
 -- the network that was built, as a problem that is posed
 pub network-posed : (r : Result Network DataFault) (n : Network) → r ≡ Ok n → IsPosed (in_data r) n.program
 network-posed r n h = (n, ap in_data h, refl)

@@ -1,6 +1,7 @@
 -- The headline: what a planner may rely on where a certificate is accepted or a run is listed, and where one must be.
-use Rattle.std.specs.Prelude.{◌≡◌, ◌⊎◌, ℕ, List, Option, Some}
+use Rattle.std.specs.Prelude.{◌≡◌, ◌⊎◌, ◌++◌, ℕ, true, List, Option, Some, is_some}
 use Rattle.nf_num.specs.Rational.{ℚ}
+use Rattle.nf_frac.specs.declared.passed.Passed.{Passed}
 use Rattle.nf_io.specs.Causes.{Rose}
 use Rattle.nf_io.specs.Held.{Held, Stored}
 use Rattle.nf_program.specs.declared.program.Command.{Command}
@@ -15,6 +16,7 @@ use Rattle.nf_model.specs.Ray.{HasNoLeastCost}
 use Rattle.nf_certify.specs.Certificates.{IsValid}
 use Rattle.nf_run.specs.declared.line.HaltLine.{HaltLine}
 use Rattle.nf_run.specs.Endings.{IsSavedAs, Stores}
+use Rattle.nf_run.specs.Runs.{IsCut}
 use Rattle.nf_run.specs.Stops.{IsListing}
 use Rattle.nf_run.specs.Verdicts as run
 use Rattle.nf_prob.specs.declared.cert.Cert.{Cert}
@@ -22,7 +24,8 @@ use Rattle.nf_prob.specs.declared.cert.Cert.TheVariants as cert
 use Rattle.nf_top.specs.declared.status.Status.{Status}
 use Rattle.nf_top.specs.declared.status.Status.TheVariants as status
 use Rattle.nf_top.specs.Data.{Sets, IsCertificateOf, IsProblemOf}
-use Rattle.nf_top.specs.Lines.{accepted_lines, claim_line}
+use Rattle.nf_no_range.specs.Law.{IsOfStageTwo}
+use Rattle.nf_top.specs.Lines.{accepted_lines, claim_line, step_range_line}
 use Rattle.nf_top.specs.Outcome.{AreHeld, Call, Input, KeepsLibrary, Lists, ReadsCertificate, RunsOn}
 use Rattle.nf_top.specs.Standing.{IsStanding, SetNames, StandsForCheck, StandsForRun}
 use Rattle.nf_top.specs.Words.{IsCommand}
@@ -75,6 +78,20 @@ pub record StoresProof (c : Call) : Type 0 where
   pub runs : RunsOn c.input program problem
   pub nothing_or_proof : KeepsLibrary c ⊎ ((name bytes : List ℕ) × (told : HaltLine) × (program.proc.certout ≡ Some name) × Stored c.input.held c.held name bytes × IsProofOf problem told bytes)
 
+-- A run ends at an operation that overflows 128 bits: the program names CONDATA, the operation arises from a state of stage
+-- two of its problem, and the listing is that of the statements before, with the line that says so.
+pub record OverflowsInStageTwo (c : Call) : Type 0 where
+  pub program : Program
+  pub problem : LinearProgram
+  pub runs : RunsOn c.input program problem
+  pub condata : is_some program.proc.condata ≡ true
+  pub front : List ℕ
+  pub pivots : ℕ
+  pub passed : Passed
+  pub cut : IsCut problem program.proc.session program.acts front 2 pivots passed
+  pub of_two : IsOfStageTwo problem 2 passed
+  pub listed : Lists c (front ++ step_range_line 2 pivots passed)
+
 -- No count of faults rose in the call.
 pub record NothingFails (c : Call) : Type 0 where
   pub source : Rose c.input.source_faults c.input.source_faults_after → ⊥
@@ -119,11 +136,11 @@ pub record IsAccepted (i : Input) (problem : LinearProgram) : Type 0 where
   pub holds : AreHeld i.held names sets
   pub posed : IsProblemOf program sets problem
 
--- If nothing fails, no store either, an accepted program is run to its end, unless a number overflows 128 bits or memory
--- runs out.
+-- If nothing fails, no store either, an accepted program is run to its end, unless memory runs out or, where it names CONDATA,
+-- a number overflows 128 bits.
 abbrev pub RunsTheAccepted : Call → Status → Type 0
-RunsTheAccepted c s = (problem : LinearProgram) → NothingFails c → (Rose c.store_faults c.store_faults_after → ⊥) → IsAccepted c.input problem
-    → (s ≡ status.Finished) ⊎ (s ≡ status.RangePassed) ⊎ (s ≡ status.NoMemory)
+RunsTheAccepted c s = (problem : LinearProgram) → NothingFails c → (Rose c.store_faults c.store_faults_after → ⊥) → (accepted : IsAccepted c.input problem)
+    → (s ≡ status.Finished) ⊎ ((s ≡ status.RangePassed) × (is_some accepted.program.proc.condata ≡ true)) ⊎ (s ≡ status.NoMemory)
 
 -- No program that the command takes has the text: it has a fault, that of too many bytes among them, or is a program that
 -- the command does not take.

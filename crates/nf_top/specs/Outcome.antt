@@ -36,6 +36,7 @@ use Rattle.nf_top.specs.declared.status.Status.{Status}
 use Rattle.nf_top.specs.declared.status.Status.TheVariants as status
 use Rattle.nf_run.specs.declared.line.HaltLine.{HaltLine}
 use Rattle.nf_run.specs.Runs.{IsCut, IsFront}
+use Rattle.nf_no_range.specs.Law.{IsOfStageTwo}
 use Rattle.nf_run.specs.Stops.{ListsAll, ListsPart, StopsAtStore}
 use Rattle.nf_program.specs.declared.program.SessionOptions.{SessionOptions}
 use Rattle.nf_program.specs.declared.program.Statement.{Statement}
@@ -283,11 +284,11 @@ Comes c status.ProgramRefused = ((fault : StmtFault) × Refused c (refusal.NoPro
 Comes c status.DataRefused = ((s : SetName) × Refused c (refusal.TooLong s)) ⊎ ((s : SetName) × (fault : TableFault) × Refused c (refusal.NoTable s fault)) ⊎ ((s : SetName) × (fault : RoleFault) × Refused c (refusal.NoRoles s fault)) ⊎ ((fault : DataFault) × Refused c (refusal.NoNetwork fault))
 Comes c status.ReadFault = Refused c refusal.ReadFault
 Comes c status.Absent = (name : List ℕ) × Refused c (refusal.Absent name)
--- an operation of the check passes 128 bits, or one of the run, behind the listing of the statements before
+-- an operation of the check overflows 128 bits; or one of stage two of the run, after the listing of the statements before
 Comes c status.RangePassed =
     ((passed : Passed) × Refused c (refusal.Range passed))
     ⊎ ((program : Program) × (problem : LinearProgram) × RunsOn c.input program problem × (front : List ℕ) × (stage pivots : ℕ) × (passed : Passed)
-    × IsCut problem program.proc.session program.acts front stage pivots passed × Lists c (front ++ step_range_line stage pivots passed) × KeepsLibrary c)
+    × IsCut problem program.proc.session program.acts front stage pivots passed × IsOfStageTwo problem stage passed × Lists c (front ++ step_range_line stage pivots passed) × KeepsLibrary c)
 Comes c status.CheckRefused = ((fault : CertFault) × Refused c (refusal.NoCertificate fault)) ⊎ ((why : Why) × Refused c (refusal.NotValid why))
 -- the listing failed, in the text that is due or behind the store at the end of a run; or that store failed
 Comes c status.WriteFault = (Rose c.sink_faults c.sink_faults_after × (WritesPart c ⊎ EndsRun c ListsPart)) ⊎ (Rose c.store_faults c.store_faults_after × EndsRun c StopsAtStore)

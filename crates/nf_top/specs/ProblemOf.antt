@@ -62,7 +62,7 @@ abbrev pub in_data : Result Network DataFault → Result Network Refusal
 in_data (Ok n) = Ok n
 in_data (Err f) = Err (OfData f)
 
--- A problem has so many rows at most; more are told at row 0, column ROWS of PROC.
+-- A problem with CONDATA has so many rows at most; more are told at row 0, column ROWS of PROC.
 abbrev pub most_rows : ℕ
 most_rows = 1000
 
@@ -81,9 +81,9 @@ abbrev pub with_constraints : ProcOptions → Network → RoleColumns → Grid �
 with_constraints o n roles cons = if o.sparsecondata then sparse_due o n roles cons else dense_due o n roles cons
 
 -- The network of ARCDATA and NODEDATA, whose columns have these roles, with the constraints of CONDATA, which may be left
--- out: first its roles are told, then the data of the network, then its data.
+-- out: first its roles are told, then the data of the network, then its data, then the size of the whole.
 abbrev pub with_cons : Program → RoleColumns → Grid → RoleColumns → Grid → Option Grid → Result Network Refusal
-with_cons p arc_roles arcs node_roles nodes None = then_with (in_data (network_due p.proc arc_roles arcs node_roles nodes)) in_size
+with_cons p arc_roles arcs node_roles nodes None = in_data (network_due p.proc arc_roles arcs node_roles nodes)
 with_cons p arc_roles arcs node_roles nodes (Some cons) =
     then_with (in_roles Condata (roles_due (layout p.proc) cons.header [] p.roles)) (λ cons_roles.
     then_with (in_data (network_due p.proc arc_roles arcs node_roles nodes)) (λ n.

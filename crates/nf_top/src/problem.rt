@@ -23,13 +23,13 @@ use nf_roles::{DataFault, DataKind, RoleFault, Roles, SetKind, assign};
 use nf_table::Table;
 use std::alloc::Global;
 
-/// The most rows of a problem.
+/// The most rows of a problem with CONDATA.
 const MOST_ROWS: u32 = 1000;
 
 /// The problem of a program and the tables of ARCDATA and, if they are there, of NODEDATA and CONDATA.
 ///
 /// It stops with `NoRoles` at the first fault of the columns of ARCDATA, then of NODEDATA, then of CONDATA; then with
-/// `NoNetwork` at the first fault of the data in this order, or if the problem has too many rows.
+/// `NoNetwork` at the first fault of the data in this order, or if a problem with CONDATA has too many rows.
 pub(crate) fn pose(alloc: Global, program: &Program, tables: &Tables) -> Result<Problem, Stop>
     requires demand { IfSome program.now.proc.demand IsAmount }
     ensures ok { IfOk result (IsPosed (problem_in program.now tables.now.arcdata tables.now.nodedata tables.now.condata)) }
@@ -90,7 +90,7 @@ fn pose_network(
         Some(cons) => pose_all(alloc, program, roles, arcs, node_roles, nodes, cons),
         None => {
             let (builder, _) = build(alloc, &program.proc, roles, arcs, node_roles, nodes)?;
-            sized(alloc, builder)
+            finished(builder)
         }
     }
 }
@@ -240,6 +240,17 @@ fn stop_of_data(fault: DataFault) -> Stop
     match fault.kind {
         DataKind::NoMemory => Stop::NoMemory,
         _ => Stop::Refused(Refusal::NoNetwork(fault)),
+    }
+}
+
+// The finished problem, of as many rows as there are.
+fn finished(builder: ProblemBuilder) -> Result<Problem, Stop>
+    ensures ok { IfOk result (λ p. p ≡ builder) }
+    ensures stops { IfErr result (λ stop. stop ≡ Stop.NoMemory) }
+{
+    match builder.finish() {
+        Ok(problem) => Ok(problem),
+        Err(_) => Err(Stop::NoMemory),
     }
 }
 

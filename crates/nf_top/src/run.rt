@@ -8,6 +8,7 @@ ghost use Rattle.nf_program.specs.declared.program.Program.{Program as ProgramRe
 ghost use Rattle.nf_run.specs.Runs.{IsCut};
 ghost use Rattle.nf_run.specs.Setting.{IsPlain};
 ghost use Rattle.nf_run.specs.Stops.{are_standing};
+ghost use Rattle.nf_no_range.specs.Law.{IsOfStageTwo};
 ghost use Rattle.nf_top.specs.Outcome.{Call, Comes, Input, RunsOn, call_with};
 
 use crate::lines;
@@ -31,7 +32,7 @@ fn tell_range<K: Sink>(
     ensures calm { K.quiet listing.old ≡ true → K.faults listing.new ≡ K.faults listing.old }
     ensures comes { (input : Input) (program : ProgramRead) (problem : LinearProgram) (front : List ℕ) (written : Option (List ℕ)) (faults : ℕ) (held : Option Held) (stores stores_after : ℕ) →
         let call : Call = call_with input written (K.written listing.new) faults (K.faults listing.new) held stores stores_after in
-        RunsOn input program problem → IsCut problem program.proc.session program.acts front stage pivots passed
+        RunsOn input program problem → IsCut problem program.proc.session program.acts front stage pivots passed → IsOfStageTwo problem stage passed
         → Appends written (K.written listing.old) front → faults ≤ K.faults listing.old → held ≡ input.held → Comes call result }
 {
     let Ok(line) = lines::step_range(alloc, stage, pivots, &passed) else {
@@ -65,6 +66,8 @@ pub(crate) fn run<K: Sink, L: Library>(
         let call : Call = call_with input (K.written listing.old) (K.written listing.new) (K.faults listing.old) (K.faults listing.new) (L.held library.new) stores (L.store_faults library.new) in
         RunsOn input program.now problem.now → L.held library.old ≡ input.held → L.store_faults library.old ≡ stores → Comes call result }
 {
+    // a problem of nodes and side rows overflows in stage two only
+    let _rows = problem.rows();
     let (options, acts) = (&program.proc.session, program.acts.items());
     let certout = text_of(&program.proc.certout);
     let fault = match run_program(alloc, problem, options, acts, certout, listing, library) {

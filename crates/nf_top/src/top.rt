@@ -8,7 +8,7 @@ ghost use Rattle.nf_program.specs.declared.program.Command.{Command as Commands}
 ghost use Rattle.nf_program.specs.declared.program.Command.TheVariants.{Check, Run};
 ghost use Rattle.nf_program.specs.Grammar.{HasProgram};
 ghost use Rattle.nf_top.specs.Data.{IsProblemOf, Sets as SetBytes};
-ghost use Rattle.nf_top.specs.Headline.{AcceptsTheValid, ClaimIsProved, RefusesNoProgram, RunIsExplained, RunsTheAccepted, StoresProof};
+ghost use Rattle.nf_top.specs.Headline.{AcceptsTheValid, ClaimIsProved, OverflowsInStageTwo, RefusesNoProgram, RunIsExplained, RunsTheAccepted, StoresProof};
 ghost use Rattle.nf_top.specs.Outcome.{Accepts, AllFetched, AreHeld, Call, Comes, Input, IsDue, Lists, NamesSets, NoneMissed, ReadsProgram, RunsOn, call_of, call_with, input_of};
 ghost use Rattle.nf_top.specs.Steps.{SawLibrary, SawSource, Stops, lent_name, names_of};
 ghost use Rattle.nf_top.specs.Words.{IsCommand};
@@ -261,8 +261,9 @@ fn obey<S: Source, L: Library, K: Sink>(
 /// exactly if it is valid for the problem of ARCDATA, NODEDATA and CONDATA; the listing then has `ACCEPTED` with what the
 /// certificate claims. `run` reads a program, fetches ARCDATA, NODEDATA and CONDATA, and obeys its statements on their
 /// problem; the listing has the lines of each RUN, statement by statement, and after them that of an operation that
-/// overflows 128 bits. At the end `run` stores the certificate of the last verdict, if the program names CERTOUT=, and the
-/// listing says so. No other set is fetched or stored.
+/// overflows 128 bits, which is one of stage two, so that a program without CONDATA has none. At the end `run` stores the
+/// certificate of the last verdict, if the program names CERTOUT=, and the listing says so. No other set is fetched or
+/// stored.
 ///
 /// Otherwise the listing has the line of one refusal, the first in this order: the words; the source; the program's text;
 /// what the command takes of the language; the fetches; the tables; the roles of their columns; the data; the size of the
@@ -280,6 +281,7 @@ pub fn netflow<S: Source, L: Library, K: Sink>(
     ensures accepted { result ≡ Status.Finished → IsCommand Check (map string_bytes words.now) → ClaimIsProved (call_of words.now S.left S.faults program.old program.new L.held L.fetch_faults L.store_faults L.misses library.old library.new K.written K.faults listing.old listing.new) }
     ensures planned { result ≡ Status.Finished → IsCommand Run (map string_bytes words.now) → RunIsExplained (call_of words.now S.left S.faults program.old program.new L.held L.fetch_faults L.store_faults L.misses library.old library.new K.written K.faults listing.old listing.new) }
     ensures stored { result ≡ Status.Finished → IsCommand Run (map string_bytes words.now) → StoresProof (call_of words.now S.left S.faults program.old program.new L.held L.fetch_faults L.store_faults L.misses library.old library.new K.written K.faults listing.old listing.new) }
+    ensures range { result ≡ Status.RangePassed → IsCommand Run (map string_bytes words.now) → OverflowsInStageTwo (call_of words.now S.left S.faults program.old program.new L.held L.fetch_faults L.store_faults L.misses library.old library.new K.written K.faults listing.old listing.new) }
     ensures complete { AcceptsTheValid (call_of words.now S.left S.faults program.old program.new L.held L.fetch_faults L.store_faults L.misses library.old library.new K.written K.faults listing.old listing.new) result }
     ensures ran { RunsTheAccepted (call_of words.now S.left S.faults program.old program.new L.held L.fetch_faults L.store_faults L.misses library.old library.new K.written K.faults listing.old listing.new) result }
     ensures refused { RefusesNoProgram (call_of words.now S.left S.faults program.old program.new L.held L.fetch_faults L.store_faults L.misses library.old library.new K.written K.faults listing.old listing.new) result }

@@ -5,13 +5,16 @@ use Rattle.nf_basis.specs.declared.dense.DenseBasis.{DenseBasis}
 use Rattle.nf_run.specs.Steps.{point_at, spot_at}
 use Rattle.nf_run.proofs.Answered.{if_err, if_ok}
 use Rattle.nf_run.proofs.RunFacts.{halt_in, telling_fails}
-use Rattle.nf_run.proofs.TurnFacts.{between_fails, over_gives, stage_fails, stage_gives, two_fails}
+use Rattle.nf_run.proofs.TurnFacts.{between_fails, over_gives, over_has_two, stage_fails, stage_gives, two_fails}
 use Rattle.nf_run.proofs.run.run_one.Goals as goal
 
 pub tell-requires-clause-halt : goal.tell-requires-clause-halt
 tell-requires-clause-halt g c =
     let at = point_at g.B.Basis.standing in
     halt_in c.args.p.now c.setting_one-setting.result (at c.args.from) (at c.in_ok-halt.at) c.in_ok-halt.halt c.in_ok-halt.ensures.runs
+
+pub start_stage_two-requires-clause-few : goal.start_stage_two-requires-clause-few
+start_stage_two-requires-clause-few g c = c.requires.plain.few_rows (over_has_two c.args.p.now c.in_ok-halt.halt (c.is_over.ensures.0 c.if-is_over.true))
 
 pub returns-in_err-second-clause-fault : goal.returns-in_err-second-clause-fault
 returns-in_err-second-clause-fault g c =
