@@ -1,10 +1,10 @@
 //! `netflow check` reads a program on standard input and its data sets in the folder in which it was started, and
 //! accepts a certificate exactly where it proves what it claims. `netflow run` obeys the statements of such a program on
-//! its data.
+//! its data. `netflow sample` makes a problem of any size from a seed, solves it and checks its certificate.
 #![tactic(auto)]
 
+use nf_call::{Status, netflow};
 use nf_io::{DirLibrary, ReadSource, WriteSink};
-use nf_top::{Status, netflow};
 use std::alloc::AllocError;
 use std::io::ErrorKind;
 use std::process::ExitCode;
