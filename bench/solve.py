@@ -2,10 +2,10 @@
 """How long `netflow run` takes on random networks of growing size, and how many pivots.
 
     python3 bench/solve.py --netflow crates/netflow/out/netflow
+    python3 bench/solve.py --netflow crates/netflow/out/netflow --sizes 5000/40000 --rules first
 
 Each network is a ring of dear arcs, so that a feasible flow exists, with random cheap arcs of small capacity across it;
-the first half of the nodes supply what the second half demands. There are eight arcs a node. The same seed makes the
-same networks. Printed for each rule of pricing: nodes, arcs, pivots, seconds of one run, microseconds a pivot, and the
+the first half of the nodes supply what the second half demands. The same seed makes the same networks. Printed for each rule of pricing: nodes, arcs, pivots, seconds of one run, microseconds a pivot, and the
 peak of memory.
 """
 import argparse
@@ -61,13 +61,14 @@ def main():
     parser = argparse.ArgumentParser(description="How long run takes.")
     parser.add_argument("--netflow", required=True, help="the built program")
     parser.add_argument("--seed", type=int, default=1)
-    parser.add_argument("--nodes", type=int, nargs="+", default=[50, 200, 900])
+    parser.add_argument("--sizes", nargs="+", default=["50/400", "100/600", "200/1600", "1000/8000"], help="nodes/arcs")
     parser.add_argument("--rules", nargs="+", default=["first", "best", "bland", "queue"])
     a = parser.parse_args()
     netflow = os.path.abspath(a.netflow)
     print("| Rule | Nodes | Arcs | Pivots | Seconds | Microseconds a pivot | MB |\n|---|---|---|---|---|---|---|")
-    for nodes in a.nodes:
-        supply, rows = network(nodes, 8 * nodes, random.Random("%d %d" % (a.seed, nodes)))
+    for size in a.sizes:
+        nodes, arcs = map(int, size.split("/"))
+        supply, rows = network(nodes, arcs, random.Random("%d %d" % (a.seed, nodes)))
         with tempfile.TemporaryDirectory() as folder:
             write(folder, supply, rows)
             for rule in a.rules:
