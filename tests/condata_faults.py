@@ -29,6 +29,14 @@ def many(count, text):
     return "|".join(text % {"n": n} for n in range(1, count + 1))
 
 
+def path(nodes):
+    """ARCDATA of a path over so many nodes."""
+    return "_FROM_,_TO_|" + "|".join("n%d,n%d" % (n, n + 1) for n in range(1, nodes))
+
+
+# more than 1,000 rows in all
+TOO_LARGE = (4, "DATA REFUSED PROC ROW 0 COLUMN ROWS: LimitPassed")
+
 # name, program, ARCDATA, CONDATA, status and listing; `|` ends a line of data
 CASES = [
     # the header of dense data, from the left
@@ -147,7 +155,14 @@ CASES = [
     ("data is no constraint of lines", SPARSE, ARCS, "_ROW_,_COLUMN_,_COEF_,_TYPE_|" + many(500, "r%(n)d,z,1,") + "|c,a_b,1,cost", refused(501, "_COLUMN_", "ArcHere")),
     ("crossed bounds, at COLUMN of the last line", SPARSE, ARCS, "_ROW_,_COLUMN_,_COEF_,_TYPE_|u,z,1,upperbd|l,z,2,lowerbd|c,z,1,cost", refused(2, "_COLUMN_", "CrossedBounds")),
     ("crossed bounds, at the first line that names it", SPARSE[:-1] + " defminflow=3 defcapacity=2;", "_FROM_,_TO_", "_ROW_,_COLUMN_,_COEF_|r,y,.|r,y,1", refused(1, "_COLUMN_", "CrossedBounds")),
+    # the size of a problem with CONDATA, after all data
+    ("1,000 nodes and a constraint", DENSE, path(1000), "z,_RHS_|1,1", TOO_LARGE),
+    ("1,001 nodes and no constraint", DENSE, path(1001), "z", TOO_LARGE),
+    ("1,000 nodes and a constraint of lines", SPARSE, path(1000), "_ROW_,_COLUMN_,_COEF_,_RHS_|r,z,1,1", TOO_LARGE),
+    ("data before the size", DENSE, path(1001), "z|x", refused(1, "z", "Amount")),
     # no fault
+    ("999 nodes and a constraint", DENSE, path(999), "z,_RHS_|1,1", (0, None)),
+    ("1,000 nodes and no constraint", DENSE, path(1000), "z", (0, None)),
     ("a missing cell is no coefficient", DENSE, ARCS, "a_b,_TYPE_,_RHS_|.,LE,7", (0, None)),
     ("reserved columns of sparse data are none of dense data", DENSE, ARCS, "z,_COEF_,_COLUMN_|1,x,y", (0, None)),
     ("no lower bound, below any upper bound", DENSE, ARCS, "_TYPE_,z|lowerbd,-INF|upperbd,-5", (0, None)),

@@ -176,16 +176,13 @@ def path(first, count):
     return ENDS + "/" + "".join("n%d,n%d/" % (i, i + 1) for i in range(first, first + count - 1))
 
 
-# The limits, on data that is made: 20,000 nodes, 200,000 arcs and 1,000 rows.
+# The limits, on data that is made: 20,000 nodes and 200,000 arcs.
 LIMITS = [
     ("", "", path(1, 20000) + "n20001,n1/", None, "ARCDATA ROW 20000 COLUMN _FROM_: LimitPassed"),
     ("", "", path(1, 20001), None, "ARCDATA ROW 20000 COLUMN _TO_: LimitPassed"),
     ("", "", path(1, 20000), NODES + "/n7,0/more,x/", "NODEDATA ROW 2 COLUMN _NODE_: LimitPassed"),
     ("", "", ENDS + "/" + "".join("a%d,b%d/" % (i // 500, i % 500) for i in range(200001)), None, "ARCDATA ROW 200001 COLUMN _FROM_: LimitPassed"),
     ("", "", ENDS + "/" + "".join("a%d,b%d/" % (i // 500, i % 500) for i in range(200000)) + ",/", None, "ARCDATA ROW 200001 COLUMN _FROM_: LimitPassed"),
-    ("", "", path(1, 1001), None, "PROC ROW 0 COLUMN ROWS: LimitPassed"),
-    ("", "", path(1, 1000), NODES + "/n1,1/", "PROC ROW 0 COLUMN ROWS: LimitPassed"),
-    ("", "", path(1, 1000), NODES + "/n1,.S/", "PROC ROW 0 COLUMN ROWS: LimitPassed"),
     ("sink=n1002", "", path(1, 1001), None, "PROC ROW 0 COLUMN SINK: UnknownSource"),
 ]
 
@@ -198,6 +195,10 @@ ACCEPTED = [
     ("", "tail _TO_;", ENDS + "/,b/", None, NONE),
     ("", "", "_from_,_Head_,x/a,b,?/", None, NONE),
     ("source=a", "", ENDS + "/a,b/", None, NONE),
+    # without CONDATA there is no limit of rows: 1,001 nodes, 1,000 nodes and the excess node
+    ("", "", path(1, 1001), None, NONE),
+    ("", "", path(1, 1000), NODES + "/n1,1/", "OPTIMAL\nTOTAL COST 0\nSTAGE 1 PIVOTS 1\nSTAGE 2 PIVOTS 0\n"),
+    ("", "", path(1, 1000), NODES + "/n1,.S/", NONE),
     ("source=a supply=5 sink=b demand=5.0", "", ENDS + ",_COST_/a,b,2/", NODES + "/a,5.000/b,-5/", "OPTIMAL\nTOTAL COST 10\nSTAGE 1 PIVOTS 1\nSTAGE 2 PIVOTS 0\n"),
 ]
 

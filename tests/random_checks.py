@@ -274,7 +274,7 @@ def other_program(r, s):
 
 
 def other_words(r, s):
-    s.words = r.choice([[], ["run", "run"], ["check", "check"], ["Check"], [""], ["sample", "1", "3", "3", "0"], ["help"], ["--help"], ["check", ""]])
+    s.words = r.choice([[], ["run", "run"], ["check", "check"], ["Check"], [""], ["sample", "1", "2", "3", "0"], ["help"], ["--help"], ["check", ""]])
 
 
 CHANGES = [

@@ -151,7 +151,13 @@ WHOLE_FILE = [
     ("check.txt", b"proc netflow arcdata=\xff nodedata=nodes certdata=certificate;\n", 3, "PROGRAM REFUSED AT 21: BadByte"),
 ]
 
-WORDS = [[], ["run", "run"], ["Run"], ["run "], ["sample", "1", "3", "3", "0"], ["check", "check"], ["CHECK"], ["check "], [""], ["--help"], ["-"]]
+WORDS = [
+    [], ["run", "run"], ["Run"], ["run "], ["check", "check"], ["CHECK"], ["check "], [""], ["--help"], ["-"], ["help"], ["--", "run"], ["run", "--"],
+    ["sample"], ["sample", "1", "3", "3"], ["sample", "1", "3", "3", "0", "1"], ["Sample", "1", "3", "3", "0"], ["sample", "", "3", "3", "0"],
+    ["sample", "1", "2", "3", "0"], ["sample", "1", "2001", "50000", "0"], ["sample", "1", "4", "3", "0"], ["sample", "1", "3", "50001", "0"],
+    ["sample", "1", "3", "3", "51"], ["sample", "1000000000", "3", "3", "0"], ["sample", "-1", "3", "3", "0"], ["sample", "+1", "3", "3", "0"],
+    ["sample", "1.0", "3", "3", "0"], ["sample", "0000000001", "3", "3", "0"], ["sample", "1", "3", "3", "help"],
+]
 
 
 def check(t, folder, words=("check",), **more):
@@ -284,15 +290,24 @@ def forged_lines(t):
             t.expect("a header cell %r" % cell, check(t, c.folder), 4, "DATA REFUSED CONDATA ROW 0 COLUMN %s: BadName" % printed)
 
 
-def too_many_nodes(t):
-    """1,000 nodes are taken, 1,001 are not."""
-    for count, status, listing in ((1000, 0, "ACCEPTED OPTIMAL\nTOTAL COST 0\n"), (1001, 4, "DATA REFUSED PROC ROW 0 COLUMN ROWS: LimitPassed")):
+def many_nodes(t):
+    """With CONDATA 1,000 nodes are taken and 1,001 are not; without it both are."""
+    accepted = "ACCEPTED OPTIMAL\nTOTAL COST 0\n"
+    for count, constrained, status, listing in (
+        (1000, False, 0, accepted),
+        (1001, False, 0, accepted),
+        (1000, True, 0, accepted),
+        (1001, True, 4, "DATA REFUSED PROC ROW 0 COLUMN ROWS: LimitPassed"),
+    ):
         with Copy() as c:
+            if constrained:
+                c.change("check.txt", "certificate;", "certificate condata=cons;")
+                c.write("cons.csv", [["_RHS_"]])
             c.write("arcs.csv", [["_FROM_", "_TO_", "_COST_", "_CAPAC_"]])
             c.write("nodes.csv", [["_NODE_", "_SUPDEM_"]] + [["n%d" % i, "0"] for i in range(count)])
             c.write("certificate.csv", [["_ITEM_", "_NUMBER_", "_VALUE_"], ["VERDICT", "1", "OPTIMAL"]]
                     + [["ROW", str(i), "1/3"] for i in range(1, count + 1)])
-            t.expect("%d nodes" % count, check(t, c.folder), status, listing)
+            t.expect("%d nodes, CONDATA: %s" % (count, constrained), check(t, c.folder), status, listing)
 
 
 # options, ARCDATA behind its header `_FROM_,_TO_,_COST_,_CAPAC_`, NODEDATA behind its header or None, the certificate's rows,
@@ -362,7 +377,7 @@ def outside(t):
 
 def main():
     t = Cases(arguments("The built program on real files.").parse_args().netflow)
-    for part in (examples, each_number, each_binding_capacity, each_two_supplies, tables, forged_lines, too_many_nodes, all_kinds, passes_the_range, outside):
+    for part in (examples, each_number, each_binding_capacity, each_two_supplies, tables, forged_lines, many_nodes, all_kinds, passes_the_range, outside):
         part(t)
     return t.end()
 
