@@ -8,6 +8,7 @@ pub mod Paths
 pub mod Trails
 pub mod Priced
 pub mod Slotted
+pub mod Places
 pub mod Passing
 pub mod Planted
 pub mod Gathered

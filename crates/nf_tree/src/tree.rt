@@ -1,5 +1,5 @@
 //! The tree of a state of stage one.
-ghost use Rattle.std.specs.Prelude.{◌≡◌, ◌≢◌, ℕ, suc, ◌+◌, ◌-◌, ◌*◌, ◌<◌, ◌≤◌, length, slice_index_or, IfOk, IfErr};
+ghost use Rattle.std.specs.Prelude.{◌≡◌, ◌≢◌, ℕ, suc, ◌+◌, ◌-◌, ◌*◌, ◌<◌, ◌≤◌, length, slice_index_or, IfOk, IfErr, IsTrue};
 ghost use Rattle.nf_model.specs.Program.{at};
 ghost use Rattle.nf_sums.specs.Terms.{PassesIn};
 ghost use Rattle.nf_simplex.specs.StageOf.{StageOne};
@@ -11,7 +11,7 @@ ghost use Rattle.nf_basis.specs.Arising.{StateTerms};
 ghost use Rattle.nf_basis.specs.Dense.{HasBasics};
 ghost use Rattle.nf_tree.specs.Held.{HasRoom, HoldsTree};
 
-use crate::ends::column_in;
+use crate::ends::{column_in, head_of, tail_of};
 use crate::moving::{entries_of, exchange, shift};
 use crate::path::{climb, path_between, wipe};
 use crate::plant::{arrange, arrange_numbers, copy};
@@ -19,7 +19,6 @@ use crate::potentials::potentials;
 use crate::span::Span;
 use nf_basis::{
     Basis, Col, Phase, Place, RestoreFault, State, bound, cost, list_basics, other_bound, refusal,
-    value_in_slot,
 };
 use nf_frac::{Frac, Passed, Steps};
 use nf_links::Links;
@@ -69,7 +68,36 @@ fn pick(numbers: &[Frac], chosen: &[u32], out: &mut [Frac])
     }
 }
 
+// Whether a column is in the slot of a vertex; the root, 0, has none.
+fn is_in_slot_of(slots: &[Col], vertex: usize, col: Col) -> bool
+    requires within { vertex ≤ length slots.now }
+    ensures yes { IsTrue result → (0 < vertex) × (in_slot slots.now (vertex - 1) ≡ col) }
+    ensures no { 0 < vertex → in_slot slots.now (vertex - 1) ≡ col → IsTrue result }
+{
+    if vertex == 0 {
+        return false;
+    }
+    column_in(slots, vertex - 1) == col
+}
+
 impl Tree {
+    // The slot of a basic column: that of the node at one of its ends.
+    fn slot_at_ends(&self, p: &Problem, col: Col) -> usize
+        requires numbers { HoldsTree p.now self.now }
+        requires present { IsPresent p.now self.now.state.standing col }
+        requires listed { (k : ℕ) × (k < p.now.nodes) × (in_slot self.now.slots.items k ≡ col) }
+        ensures within { result < p.now.nodes }
+        ensures column { in_slot self.now.slots.items result ≡ col }
+    {
+        let tail = tail_of(p, &self.state, col) as usize;
+        let head = head_of(p, &self.state, col) as usize;
+        if is_in_slot_of(self.slots.as_slice(), tail, col) {
+            tail - 1
+        } else {
+            head - 1
+        }
+    }
+
     /// The links of the tree.
     pub fn links(&self) -> &Links
         ensures { result.now ≡ self.now.span.grove.links }
@@ -245,7 +273,7 @@ impl Basis for Tree {
             Place::Lower => bound(p, &self.state, col, Place::Lower),
             Place::Upper => bound(p, &self.state, col, Place::Upper),
             Place::Zero => Frac::zero(),
-            Place::Basic => value_in_slot(self.slots.as_slice(), self.values.as_slice(), col),
+            Place::Basic => self.values[self.slot_at_ends(p, col)],
             // No present column is absent.
             Place::Absent => Frac::zero(),
         }

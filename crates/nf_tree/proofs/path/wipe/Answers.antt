@@ -1,6 +1,6 @@
-use Rattle.std.proofs.Common.{◌≡◌, ◌<◌, ◌≤◌, length, sym, subst, arith}
+use Rattle.std.proofs.Common.{◌≡◌, subst, arith}
 use Rattle.nf_tree.specs.Links.{ListsWeights}
-use Rattle.nf_tree.proofs.Trails.{none_left, wiped}
+use Rattle.nf_tree.proofs.Trails.{none_left}
 use Rattle.nf_tree.proofs.path.wipe.Goals as goal
 
 pub returns : goal.returns
