@@ -16,3 +16,4 @@ mod verdict;
 pub use event::RunFault;
 pub use line::{Counts, HaltLine};
 pub use statements::{are_standing, run_program};
+pub use verdict::in_own_sense;

@@ -15,8 +15,8 @@ use nf_prob::{Cert, Checked, Problem, verify};
 use std::alloc::Global;
 use std::sync::ledger::Ledger;
 
-// A cost in the program's own sense: a program that maximises has its costs negated.
-fn in_own_sense(p: &Problem, f: Frac) -> Frac
+/// A cost or a rate of the minimised problem in the program's own sense: a program that maximises has its costs negated.
+pub fn in_own_sense(p: &Problem, f: Frac) -> Frac
     ensures { result ≡ with_sign p.now.maximizes f }
 {
     if p.maximize() { f.neg() } else { f }

@@ -1,7 +1,6 @@
 //! The check of a certificate.
 ghost use Rattle.std.specs.Prelude.{true, ◌≡◌, ◌<◌, length, is_some, Some, Ok, IfOk, IfErr, IfSome};
 ghost use Rattle.nf_frac.specs.Amounts.{IsAmount};
-ghost use Rattle.nf_sums.specs.Terms.{with_sign};
 ghost use Rattle.nf_cert.specs.Reading.{cert_read};
 ghost use Rattle.nf_prob.specs.Verdict.{HasLengths, IsAnswer};
 ghost use Rattle.nf_prob.specs.declared.cert.Checked.TheVariants.{Yes};
@@ -18,7 +17,7 @@ use nf_cert::{CertFault, read_cert};
 use nf_frac::{Frac, Steps};
 use nf_prob::{Cert, Checked, Problem, Why, verify};
 use nf_program::Program;
-use nf_run::HaltLine;
+use nf_run::{HaltLine, in_own_sense};
 use nf_table::Table;
 use std::alloc::Global;
 use std::marker::Brand;
@@ -80,17 +79,6 @@ fn claim_line(problem: &Problem, certificate: &Cert, number: Frac) -> HaltLine
         Cert::Best { .. } => HaltLine::Optimal(in_own_sense(problem, number)),
         Cert::Farkas { .. } => HaltLine::Infeasible(number),
         Cert::Ray { .. } => HaltLine::Unbounded(in_own_sense(problem, number)),
-    }
-}
-
-// A number of the minimised problem in the program's own sense.
-fn in_own_sense(problem: &Problem, number: Frac) -> Frac
-    ensures { result ≡ with_sign problem.now.maximizes number }
-{
-    if problem.maximize() {
-        number.neg()
-    } else {
-        number
     }
 }
 
