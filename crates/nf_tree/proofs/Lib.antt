@@ -13,3 +13,6 @@ pub mod Passing
 pub mod Planted
 pub mod Gathered
 pub mod Settled
+pub mod Subtrees
+pub mod Paid
+pub mod Moved

@@ -13,7 +13,7 @@ use Rattle.nf_simplex.proofs.Slots.{AreSlots, spread, weights_of_slots}
 use Rattle.nf_tree.proofs.Keys as keys
 use Rattle.nf_tree.specs.Network.{IsRooted, IsNetwork, turn, AreFlows, ArePotentials, IsTernary}
 
-one-not-zero : one_ℚ ≢ zero_ℚ
+pub one-not-zero : one_ℚ ≢ zero_ℚ
 one-not-zero e = less_irrefl zero_ℚ (subst (λ x. zero_ℚ <ℚ x) e one-positive)
 
 -- the vertex before a vertex

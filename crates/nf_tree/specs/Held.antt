@@ -1,4 +1,5 @@
--- What a tree keeps: a state of stage one that is a basis, the basic columns in slots with their values, and their links.
+-- What a tree keeps: a state of stage one that is a basis, the basic columns in slots with their values, their links, and
+-- the duals of both phases.
 -- Its `HasNumbers` is `HoldsTree`.
 use Rattle.std.specs.Prelude.{◌≡◌, ℕ, ◌+◌, ◌*◌, ◌<◌, length}
 use Rattle.nf_model.specs.Program.{LinearProgram}
@@ -9,6 +10,8 @@ use Rattle.nf_basis.specs.Kept.{IsPresent, IsStateOf}
 use Rattle.nf_basis.specs.Numbers.{in_slot, ListBasics}
 use Rattle.nf_basis.specs.Dense.{HasBasics}
 use Rattle.nf_tree.specs.declared.tree.Tree.{Tree}
+use Rattle.nf_basis.specs.declared.col.Phase.TheVariants.{One, Two}
+use Rattle.nf_tree.specs.Duals.{KeepsDuals}
 use Rattle.nf_tree.specs.Links.{AreZeros, HasSpan, IsTreeOf}
 
 -- There is room for a tree over n nodes, for a column, and for a path, whose weights are 0 between calls.
@@ -25,6 +28,8 @@ pub record HoldsTree (p : LinearProgram) (b : Tree) : Type 0 where
   pub stage : b.state.standing.stage ≡ StageOne
   pub held : HasBasics p b.state.standing b.slots.items b.values.items
   pub tree : IsTreeOf p b.state.standing b.slots.items b.span.grove.order.items b.span.grove.links
+  pub one : KeepsDuals p b.state.standing One b.one
+  pub two : KeepsDuals p b.state.standing Two b.two
   pub room : HasRoom p.nodes b
 
 -- A tree has the links of its state's basic columns, each in the slot of its node; of its values nothing is said.
@@ -35,7 +40,20 @@ pub record IsPlanted (p : LinearProgram) (b : Tree) : Type 0 where
   pub listed : ListBasics p b.state.standing b.slots.items
   pub tree : IsTreeOf p b.state.standing b.slots.items b.span.grove.order.items b.span.grove.links
   pub values : length b.values.items ≡ p.nodes
+  pub one : KeepsDuals p b.state.standing One b.one
+  pub two : KeepsDuals p b.state.standing Two b.two
   pub room : HasRoom p.nodes b
+
+-- All fields but the duals stay.
+pub record KeepsAllButDuals (old new : Tree) : Type 0 where
+  pub state : new.state ≡ old.state
+  pub slots : new.slots ≡ old.slots
+  pub values : new.values ≡ old.values
+  pub span : new.span ≡ old.span
+  pub keys : new.keys ≡ old.keys
+  pub work : new.work ≡ old.work
+  pub weights : new.weights ≡ old.weights
+  pub trail : new.trail ≡ old.trail
 
 -- What a call may cost: sixteen times the number of vertices.
 abbrev pub tree_unit : LinearProgram → StageNumber → ℕ

@@ -3,12 +3,15 @@
 //! and -1 along a path, duals are the potentials of the nodes, and values are sums over subtrees.
 #![tactic(auto)]
 
+mod below;
 mod calls;
+mod duals;
 mod ends;
 mod moving;
 mod path;
 mod plant;
 mod potentials;
+mod reduced;
 mod restoring;
 mod solving;
 mod span;

@@ -47,7 +47,8 @@ pub(crate) fn entries_of<L: Ledger>(
     path_between(p, state, slots, order, links, from, to, out, steps);
 }
 
-/// The values after a column has entered for the one in a slot, which goes to a bound. `work` is room for a column.
+/// The values after a column has entered for the one in a slot, which goes to a bound. `work` is room for a column: it
+/// gets the entries of the entering one.
 pub(crate) fn exchange<L: Ledger>(
     p: &Problem,
     state: &State,
@@ -73,6 +74,7 @@ pub(crate) fn exchange<L: Ledger>(
     ensures held { IfOk result (λ _. HasBasics p.now (changes.exchanged p.now state.now.standing (col_of entering) (col_of (in_slot slots.now slot)) (place_of to)) (set slots.now slot entering) values.new) }
     ensures long { length values.new ≡ length values.old }
     ensures room { length work.new ≡ p.now.nodes }
+    ensures entries { IfOk result (λ _. AreEntriesBySlot p.now state.now.standing slots.now entering work.new) }
     ensures passed { IfErr result (PassesIn (StateTerms p.now state.now.standing)) }
     ensures cost { steps.new ≤ steps.old + 8 * p.now.nodes + 5 }
 {

@@ -10,14 +10,16 @@ ghost use Rattle.nf_basis.specs.Kept.{IsStateOf};
 ghost use Rattle.nf_basis.specs.Numbers.{ListBasics};
 ghost use Rattle.nf_basis.specs.Arising.{LoadTerms};
 ghost use Rattle.nf_basis.specs.AtBounds.{rests_cost};
+ghost use Rattle.nf_tree.specs.Duals.{KeepsDuals};
 ghost use Rattle.nf_tree.specs.Held.{HasRoom, HoldsTree, IsPlanted};
 ghost use Rattle.nf_tree.specs.Links.{AreZeros};
 
+use crate::duals::Duals;
 use crate::plant::arrange;
 use crate::solving::tree_solve;
 use crate::span::Span;
 use crate::tree::Tree;
-use nf_basis::{Col, State, rests_at_bounds};
+use nf_basis::{Col, Phase, State, rests_at_bounds};
 use nf_frac::{Frac, Passed, Steps};
 use nf_prob::Problem;
 use std::alloc::{AllocError, Global};
@@ -68,6 +70,8 @@ impl Tree {
         ensures keys { IfOk result (λ b. b.keys.items ≡ keys.items) }
         ensures slots { IfOk result (λ b. length b.slots.items ≡ p.now.nodes) }
         ensures values { IfOk result (λ b. length b.values.items ≡ p.now.nodes) }
+        ensures one { IfOk result (λ b. KeepsDuals p.now state.standing Phase.One b.one) }
+        ensures two { IfOk result (λ b. KeepsDuals p.now state.standing Phase.Two b.two) }
         ensures room { IfOk result (HasRoom p.now.nodes) }
     {
         let n = p.nodes();
@@ -80,6 +84,8 @@ impl Tree {
             work: no_numbers(alloc, n)?,
             weights: no_weights(alloc, n)?,
             trail: no_trail(alloc, n)?,
+            one: Duals::unknown(alloc, n)?,
+            two: Duals::unknown(alloc, n)?,
         })
     }
 
@@ -92,6 +98,8 @@ impl Tree {
         requires keys { ListBasics p.now self.old.state.standing self.old.keys.items }
         requires slots { length self.old.slots.items ≡ p.now.nodes }
         requires values { length self.old.values.items ≡ p.now.nodes }
+        requires one { KeepsDuals p.now self.old.state.standing Phase.One self.old.one }
+        requires two { KeepsDuals p.now self.old.state.standing Phase.Two self.old.two }
         requires room { HasRoom p.now.nodes self.old }
         ensures planted { IsTrue result → IsPlanted p.now self.new }
         ensures joined { IsBasisOf p.now self.old.state.standing → IsTrue result }

@@ -1,24 +1,28 @@
 //! The tree of a state of stage one.
 ghost use Rattle.std.specs.Prelude.{◌≡◌, ◌≢◌, ℕ, suc, ◌+◌, ◌-◌, ◌*◌, ◌<◌, ◌≤◌, length, slice_index_or, IfOk, IfErr, IsTrue};
+ghost use Rattle.nf_num.specs.Rational.{zero_ℚ};
 ghost use Rattle.nf_model.specs.Program.{at};
 ghost use Rattle.nf_sums.specs.Terms.{PassesIn};
 ghost use Rattle.nf_simplex.specs.StageOf.{StageOne};
-ghost use Rattle.nf_simplex.specs.Standing.{costs_of};
-ghost use Rattle.nf_basis.specs.Names.{phase_of};
-ghost use Rattle.nf_basis.specs.Kept.{IsPresent, IsStateOf};
-ghost use Rattle.nf_basis.specs.Numbers.{AreDualsByRow, AreInverseWeights, AreSlotsBelow, IsInverseColumnBySlot, in_slot, slot_number};
+ghost use Rattle.nf_simplex.specs.Place as model;
+ghost use Rattle.nf_simplex.specs.Standing.{IsBasisOf};
+ghost use Rattle.nf_basis.specs.Kept.{IsBoundOf, IsNonbasic, IsPresent, IsStateOf};
+ghost use Rattle.nf_basis.specs.Numbers.{AreDualsByRow, AreEntriesBySlot, AreInverseWeights, AreSlotsBelow, IsInverseColumnBySlot, ListBasics, in_slot};
 ghost use Rattle.nf_basis.specs.Arising.{StateTerms};
 ghost use Rattle.nf_basis.specs.Dense.{HasBasics};
-ghost use Rattle.nf_tree.specs.Held.{HasRoom, HoldsTree};
+ghost use Rattle.nf_basis.specs.Duals.{after_pivot};
+ghost use Rattle.nf_tree.specs.Duals.{KeepsDuals};
+ghost use Rattle.nf_tree.specs.Held.{HasRoom, HoldsTree, KeepsAllButDuals};
+ghost use Rattle.nf_tree.specs.Links.{IsTreeOf};
 
+use crate::duals::Duals;
 use crate::ends::{column_in, head_of, tail_of};
 use crate::moving::{entries_of, exchange, shift};
 use crate::path::{climb, path_between, wipe};
 use crate::plant::{arrange, arrange_numbers, copy};
-use crate::potentials::potentials;
 use crate::span::Span;
 use nf_basis::{
-    Basis, Col, Phase, Place, RestoreFault, State, bound, cost, list_basics, other_bound, refusal,
+    Basis, Col, Phase, Place, RestoreFault, State, bound, list_basics, other_bound, refusal,
 };
 use nf_frac::{Frac, Passed, Steps};
 use nf_links::Links;
@@ -27,8 +31,8 @@ use std::alloc::Global;
 use std::sync::ledger::Ledger;
 
 /// A basis of stage one as a spanning tree over the nodes and a root: an arc joins its ends, and an artificial its node
-/// with the root. Slot i has the column between node i + 1 and its predecessor. The links are made anew after each pivot.
-/// Its unit is `16 * (m + 1)` for m rows.
+/// with the root. Slot i has the column between node i + 1 and its predecessor. The links are made anew after each pivot,
+/// and of the duals those of the subtree below the leaving column change. Its unit is `16 * (m + 1)` for m rows.
 #[derive(Drop)]
 pub struct Tree {
     pub(crate) state: State,
@@ -41,20 +45,9 @@ pub struct Tree {
     // Of a path to the root: the weights by slot, which are all 0 between calls, and its slots.
     pub(crate) weights: Vec<Frac>,
     pub(crate) trail: Vec<usize>,
-}
-
-// The costs of the columns in the slots.
-fn cost_all(p: &Problem, state: &State, slots: &[Col], phase: Phase, out: &mut Vec<Frac>)
-    requires state { IsStateOf p.now state.now }
-    requires present { (k : ℕ) → k < length slots.now → IsPresent p.now state.now.standing (in_slot slots.now k) }
-    requires places { length out.old.items ≡ length slots.now }
-    ensures long { length out.new.items ≡ length out.old.items }
-    ensures costs { (i : ℕ) → i < length slots.now → at out.new.items i ≡ costs_of p.now (phase_of phase) (slot_number p.now slots.now i) }
-{
-    for i in 0..slots.len() {
-        let col = column_in(slots, i);
-        out[i] = cost(p, state, col, phase);
-    }
+    // The duals of phase one, and of phase two.
+    pub(crate) one: Duals,
+    pub(crate) two: Duals,
 }
 
 // The numbers of the chosen slots.
@@ -110,6 +103,8 @@ impl Tree {
         requires state { IsStateOf p.now self.old.state }
         requires stage { self.old.state.standing.stage ≡ StageOne }
         requires held { HasBasics p.now self.old.state.standing self.old.slots.items self.old.values.items }
+        requires one { KeepsDuals p.now self.old.state.standing Phase.One self.old.one }
+        requires two { KeepsDuals p.now self.old.state.standing Phase.Two self.old.two }
         requires room { HasRoom p.now.nodes self.old }
         ensures numbers { HoldsTree p.now self.new }
         ensures state { self.new.state ≡ self.old.state }
@@ -191,7 +186,7 @@ impl Tree {
         wipe(self.trail.as_slice(), count, self.weights.as_mut_slice());
     }
 
-    // The duals of a phase, by row: the potentials for its costs.
+    // The duals of a phase, by row: only the first call computes them.
     pub(crate) fn price_all<L: Ledger>(
         &mut self,
         p: &Problem,
@@ -201,7 +196,7 @@ impl Tree {
     ) -> Result<(), Passed>
         requires numbers { HoldsTree p.now self.old }
         requires places { length out.old ≡ p.now.nodes }
-        ensures numbers { HoldsTree p.now self.new }
+        ensures numbers { IfOk result (λ _. HoldsTree p.now self.new) }
         ensures state { self.new.state ≡ self.old.state }
         ensures slots { self.new.slots.items ≡ self.old.slots.items }
         ensures values { self.new.values.items ≡ self.old.values.items }
@@ -209,15 +204,74 @@ impl Tree {
         ensures passed { IfErr result (PassesIn (StateTerms p.now self.old.state.standing)) }
         ensures cost { steps.new ≤ steps.old + 2 * p.now.nodes }
     {
-        cost_all(p, &self.state, self.slots.as_slice(), phase, &mut self.work);
-        potentials(
+        let (state, slots) = (&self.state, self.slots.as_slice());
+        let (order, links) = (self.span.grove.order.as_slice(), &self.span.grove.links);
+        let work = &mut self.work;
+        match phase {
+            Phase::One => {
+                let one = &mut self.one;
+                one.read(p, state, slots, order, links, Phase::One, work, out, steps)
+            }
+            Phase::Two => {
+                let two = &mut self.two;
+                two.read(p, state, slots, order, links, Phase::Two, work, out, steps)
+            }
+        }
+    }
+
+    // Changes the duals of both phases by a pivot in which a column enters for the one in a slot. `work` has its entries.
+    // The state, the slots and the links are those before the pivot.
+    pub(crate) fn shift_duals<L: Ledger>(
+        &mut self,
+        p: &Problem,
+        entering: Col,
+        slot: usize,
+        steps: &mut Steps<L>,
+    ) -> Result<(), Passed>
+        requires state { IsStateOf p.now self.old.state }
+        requires stage { self.old.state.standing.stage ≡ StageOne }
+        requires basis { IsBasisOf p.now self.old.state.standing }
+        requires listed { ListBasics p.now self.old.state.standing self.old.slots.items }
+        requires tree { IsTreeOf p.now self.old.state.standing self.old.slots.items self.old.span.grove.order.items self.old.span.grove.links }
+        requires one { KeepsDuals p.now self.old.state.standing Phase.One self.old.one }
+        requires two { KeepsDuals p.now self.old.state.standing Phase.Two self.old.two }
+        requires entering { IsNonbasic p.now self.old.state.standing entering }
+        requires within { slot < p.now.nodes }
+        requires entries { AreEntriesBySlot p.now self.old.state.standing self.old.slots.items entering self.old.work.items }
+        requires long { length self.old.work.items ≡ p.now.nodes }
+        requires entry { at self.old.work.items slot ≢ zero_ℚ }
+        ensures one { (to : model.Place) → IsBoundOf p.now (in_slot self.old.slots.items slot) to → IfOk result (λ _. KeepsDuals p.now (after_pivot p.now self.old.state.standing entering (in_slot self.old.slots.items slot) to) Phase.One self.new.one) }
+        ensures two { (to : model.Place) → IsBoundOf p.now (in_slot self.old.slots.items slot) to → IfOk result (λ _. KeepsDuals p.now (after_pivot p.now self.old.state.standing entering (in_slot self.old.slots.items slot) to) Phase.Two self.new.two) }
+        ensures kept { KeepsAllButDuals self.old self.new }
+        ensures passed { IfErr result (PassesIn (StateTerms p.now self.old.state.standing)) }
+        ensures cost { steps.new ≤ steps.old + 6 * p.now.nodes + 4 }
+    {
+        let (state, slots, work) = (&self.state, self.slots.as_slice(), self.work.as_slice());
+        let (order, links) = (self.span.grove.order.as_slice(), &self.span.grove.links);
+        let one = &mut self.one;
+        one.pivot(
             p,
-            &self.state,
-            self.slots.as_slice(),
-            self.span.grove.order.as_slice(),
-            &self.span.grove.links,
-            self.work.as_slice(),
-            out,
+            state,
+            slots,
+            order,
+            links,
+            Phase::One,
+            entering,
+            slot,
+            work,
+            steps,
+        )?;
+        let two = &mut self.two;
+        two.pivot(
+            p,
+            state,
+            slots,
+            order,
+            links,
+            Phase::Two,
+            entering,
+            slot,
+            work,
             steps,
         )?;
         Ok(())
@@ -355,6 +409,7 @@ impl Basis for Tree {
             to,
             steps,
         )?;
+        self.shift_duals(p, entering, at, steps)?;
         let leaving = self.slots[at];
         self.state.set_place(p, entering, Place::Basic);
         self.state.set_place(p, leaving, to);

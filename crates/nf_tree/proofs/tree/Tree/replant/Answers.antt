@@ -74,6 +74,8 @@ returns-clause-numbers g c =
       held = held_planted p s ok one b.slots.items c.copy.new.keys.items h.listed keys_are c.rebuild-joined.new.self a.room spans2 c.arrange.new.slots.items (z.long ∙ many) slots_are
           b.values.items c.copy.new.work.items c.requires.held work_are c.arrange_numbers.new.values.items (y.long ∙ many5) values_are;
       tree = tree_planted p s ok one b.slots.items c.copy.new.keys.items h.listed keys_are c.rebuild-joined.new.self a.room spans2 c.arrange.new.slots.items (z.long ∙ many) slots_are;
+      one = c.requires.one;
+      two = c.requires.two;
       room = record {
         span = a.room;
         keys = c.copy.ensures.long_keys ∙ (ap length c.as_slice.ensures.value ∙ nodes);

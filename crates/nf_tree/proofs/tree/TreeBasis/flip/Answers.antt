@@ -8,7 +8,11 @@ use Rattle.nf_basis.specs.Names.{col_of}
 use Rattle.nf_basis.specs.Kept.{MayStand, number}
 use Rattle.nf_basis.proofs.Named.{nonbasic_rests, bounded_rests, other_may_stand}
 use Rattle.nf_basis.specs.Dense.{HasBasics}
+use Rattle.nf_simplex.proofs.Moving.{has_place}
+use Rattle.nf_basis.specs.declared.col.Phase.TheVariants.{One, Two}
+use Rattle.nf_tree.specs.Duals.{KeepsDuals}
 use Rattle.nf_tree.specs.Links.{IsTreeOf}
+use Rattle.nf_tree.proofs.Moved.{kept_by_flip}
 use Rattle.nf_tree.proofs.Slotted.{rows_are, tree_placed}
 use Rattle.nf_tree.proofs.tree.TreeBasis.flip.Goals as goal
 
@@ -40,10 +44,13 @@ returns-clause-numbers g c =
     let n2 = c.as_mut_slice-2.ensures.value in
     let n3 = ap length n2 in
     let len : b.work.len ≡ length b.work.items = omega arith in
+    let has = has_place p s h.state.problem.arcs_within h.state.fits (col_of c.args.entering) c.requires.entering.nonbasic.0.1 in
     record {
       state = c.set_place.ensures.state;
       stage = ap (λ t. t.stage) same ∙ h.stage;
       held = subst (λ t. HasBasics p t b.slots.items final) (sym same) (subst (λ xs. HasBasics p (flipped p s (col_of c.args.entering)) b.slots.items xs) back shifted);
       tree = subst (λ t. IsTreeOf p t b.slots.items b.span.grove.order.items b.span.grove.links) (sym same) (tree_placed p s (number p c.args.entering) (other_bound (place_of p s (col_of c.args.entering))) b.slots.items b.span.grove.order.items b.span.grove.links h.tree);
+      one = subst (λ t. KeepsDuals p t One b.one) (sym same) (kept_by_flip p s c.args.entering One b.one has c.requires.entering.nonbasic.1 h.one);
+      two = subst (λ t. KeepsDuals p t Two b.two) (sym same) (kept_by_flip p s c.args.entering Two b.two has c.requires.entering.nonbasic.1 h.two);
       room = record { span = h.room.span; keys = h.room.keys; work = sym (length_refill b.work.len b.work.items c.shift.new.work len) ∙ (len ∙ h.room.work); weights = h.room.weights; trail = h.room.trail };
     }
