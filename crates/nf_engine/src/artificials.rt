@@ -1,18 +1,12 @@
-//! The sum of the artificials.
-ghost use Rattle.std.specs.Prelude.{◌≡◌, ◌+◌, ◌<◌, ◌≤◌, ◌^◌, IfOk, IfErr};
-ghost use Rattle.nf_sums.specs.Terms.{PassesIn};
-ghost use Rattle.nf_simplex.specs.Columns as columns;
-ghost use Rattle.nf_simplex.specs.Standing.{IsFeasibleState, number_in, rows_of};
-ghost use Rattle.nf_simplex.specs.Verdicts.{artificial_sum};
-ghost use Rattle.nf_basis.specs.Arising.{StateTerms};
+// Whether the artificials sum to more than 0.
+ghost use Rattle.std.specs.Prelude.{◌≡◌, true, false};
+ghost use Rattle.nf_simplex.specs.Standing.{IsFeasibleState, rows_of};
 ghost use Rattle.nf_basis.specs.Kept.{IsStateOf};
 ghost use Rattle.nf_price.specs.Choice.{TellsShort};
 
 use nf_basis::{Basis, Col, State};
-use nf_frac::{Frac, Passed, Steps};
 use nf_prob::Problem;
-use nf_sums::{is_zero, sum_numbers};
-use std::sync::ledger::Ledger;
+use nf_sums::is_zero;
 
 // How many rows the stage of a state has.
 pub(crate) fn rows_in(p: &Problem, state: &State) -> u32
@@ -26,42 +20,22 @@ pub(crate) fn rows_in(p: &Problem, state: &State) -> u32
     }
 }
 
-/// The sum of the artificials' values: how much of the rows' right sides the given columns and slacks do not yet meet.
-///
-/// `Passed` only where an operation of this sum passes 128 bits. At most one step for each row of the stage.
-pub fn sum_of_artificials<B: Basis, L: Ledger>(
-    p: &Problem,
-    basis: &B,
-    steps: &mut Steps<L>,
-) -> Result<Frac, Passed>
-    requires numbers { B.HasNumbers p.now basis.now }
-    ensures sum { IfOk result (λ r. r ≡ artificial_sum p.now (B.values p.now basis.now)) }
-    ensures passed { IfErr result (PassesIn (StateTerms p.now (B.standing basis.now))) }
-    ensures cost { steps.new ≤ steps.old + rows_of p.now (B.standing basis.now) }
-{
-    let rows = rows_in(p, basis.state());
-    let value = |i: usize| -> Frac
-        requires numbers { B.HasNumbers p.now basis.now }
-        requires within { i < rows_of p.now (B.standing basis.now) }
-        requires few { rows_of p.now (B.standing basis.now) < 2 ^ 32 }
-        ensures { result ≡ B.values p.entry.now basis.entry.now (number_in p.entry.now (columns.Artificial i)) }
-    { basis.value(p, Col::Artificial(i as u32 + 1)) };
-    let sum = sum_numbers(rows as usize, value, steps)?;
-    Ok(sum)
-}
-
-// Whether they sum to more than 0. In a feasible state none is negative.
-pub(crate) fn is_short<B: Basis, L: Ledger>(
-    p: &Problem,
-    basis: &B,
-    steps: &mut Steps<L>,
-) -> Result<bool, Passed>
+// Whether the artificials sum to more than 0. In a feasible state none is negative, so one that is not 0 shows it; and
+// they stay at 0 once they are `met`.
+pub(crate) fn is_short<B: Basis>(p: &Problem, basis: &B, met: bool) -> bool
     requires numbers { B.HasNumbers p.now basis.now }
     requires feasible { IsFeasibleState p.now (B.standing basis.now) }
-    ensures short { IfOk result (TellsShort p.now (B.standing basis.now)) }
-    ensures passed { IfErr result (PassesIn (StateTerms p.now (B.standing basis.now))) }
-    ensures cost { steps.new ≤ steps.old + rows_of p.now (B.standing basis.now) }
+    requires met { met ≡ true → TellsShort p.now (B.standing basis.now) false }
+    ensures short { TellsShort p.now (B.standing basis.now) result }
 {
-    let sum = sum_of_artificials(p, basis, steps)?;
-    Ok(!is_zero(sum))
+    if met {
+        return false;
+    }
+    let rows = rows_in(p, basis.state());
+    for i in 0..rows {
+        if !is_zero(basis.value(p, Col::Artificial(i + 1))) {
+            return true;
+        }
+    }
+    false
 }

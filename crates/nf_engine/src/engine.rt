@@ -7,6 +7,7 @@ ghost use Rattle.nf_simplex.specs.Standing.{IsFeasibleState, Standing, rows_of};
 ghost use Rattle.nf_basis.specs.Arising.{StateTerms};
 ghost use Rattle.nf_basis.specs.Kept.{IsPresent, number};
 ghost use Rattle.nf_engine.specs.Point.{point};
+ghost use Rattle.nf_price.specs.Choice.{TellsShort};
 ghost use Rattle.nf_price.specs.Queue.{pricing};
 ghost use Rattle.nf_price.specs.Rules.{HasSize};
 ghost use Rattle.nf_price.specs.declared.rule.Rule.{Rule as RuleName};
@@ -160,6 +161,7 @@ impl<B: Basis> Engine<B> {
             self.cursor,
             &mut self.queue,
             true,
+            false,
             &mut self.room,
             steps,
         )?;
@@ -197,20 +199,23 @@ impl<B: Basis> Engine<B> {
         ensures run { IfOk result (λ h. RunsTo p.now rule most pauses.now (point B.standing self.old) h (point B.standing self.new)) }
         ensures passed { IfErr result (PassesAt p.now rule most pauses.now (point B.standing self.old) self.new.pivots) }
     {
+        let mut met = false;
         'turns: loop {
-            if let Some(halt) = self.turn(p, rule, most, pauses, steps)? {
+            if let Some(halt) = self.turn(p, rule, most, pauses, &mut met, steps)? {
                 return Ok(halt);
             }
         }
     }
 
-    // One turn of a run: a step, and the halt that is due in its place or behind it.
+    // One turn of a run: a step, and the halt that is due in its place or behind it. `met` says that the artificials are
+    // known to sum to 0: no step brings them up again.
     fn turn<L: Ledger>(
         &mut self,
         p: &Problem,
         rule: Rule,
         most: u64,
         pauses: &Pauses,
+        met: &mut bool,
         steps: &mut Steps<L>,
     ) -> Result<Option<Halt>, Passed>
         requires numbers { B.HasNumbers p.now self.old.basis }
@@ -218,9 +223,11 @@ impl<B: Basis> Engine<B> {
         requires room { self.old.room ≡ rows_of p.now (B.standing self.old.basis) }
         requires most { most ≤ 2 ^ 63 }
         requires size { HasSize rule }
+        requires met { met.old ≡ true → TellsShort p.now (B.standing self.old.basis) false }
         ensures numbers { IfOk result (λ _. B.HasNumbers p.now self.new.basis) }
         ensures feasible { IfOk result (λ _. IsFeasibleState p.now (B.standing self.new.basis)) }
         ensures room { IfOk result (λ _. self.new.room ≡ rows_of p.now (B.standing self.new.basis)) }
+        ensures met { IfOk result (λ _. met.new ≡ true → TellsShort p.now (B.standing self.new.basis) false) }
         ensures turn { IfOk result (λ h. IsTurnTo p.now rule most pauses.now (point B.standing self.old) h (point B.standing self.new)) }
         ensures passed { IfErr result (PassesAt p.now rule most pauses.now (point B.standing self.old) self.new.pivots) }
     {
@@ -232,6 +239,7 @@ impl<B: Basis> Engine<B> {
             self.cursor,
             &mut self.queue,
             moves,
+            *met,
             &mut self.room,
             steps,
         )?;
@@ -242,7 +250,8 @@ impl<B: Basis> Engine<B> {
                     return Ok(Some(Halt::Limit));
                 }
                 self.make(p, change, steps)?;
-                let halt = halt_due(p, &self.basis, self.pivots, pauses, due.short, steps)?;
+                *met = !due.short;
+                let halt = halt_due(p, &self.basis, self.pivots, pauses, due.short);
                 Ok(halt)
             }
         }
@@ -303,27 +312,25 @@ fn may_move(pivots: u64, most: u64) -> bool
 }
 
 // The halt that is due behind a step, where `short` says whether the artificials summed to more than 0 before it.
-fn halt_due<B: Basis, L: Ledger>(
+fn halt_due<B: Basis>(
     p: &Problem,
     basis: &B,
     pivots: u64,
     pauses: &Pauses,
     short: bool,
-    steps: &mut Steps<L>,
-) -> Result<Option<Halt>, Passed>
+) -> Option<Halt>
     requires numbers { B.HasNumbers p.now basis.now }
     requires feasible { IsFeasibleState p.now (B.standing basis.now) }
-    ensures due { IfOk result (IsHaltDue p.now pauses.now short pivots (B.standing basis.now)) }
-    ensures passed { IfErr result (PassesIn (StateTerms p.now (B.standing basis.now))) }
+    ensures due { IsHaltDue p.now pauses.now short pivots (B.standing basis.now) result }
 {
     if pauses.every != 0 && pivots % pauses.every == 0 {
-        return Ok(Some(Halt::Pause));
+        return Some(Halt::Pause);
     }
     if pauses.feasible && short {
-        let left = is_short(p, basis, steps)?;
+        let left = is_short(p, basis, false);
         if !left {
-            return Ok(Some(Halt::Feasible));
+            return Some(Halt::Feasible);
         }
     }
-    Ok(None)
+    None
 }

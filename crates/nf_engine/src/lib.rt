@@ -8,7 +8,6 @@ mod laws;
 mod room;
 mod turn;
 
-pub use artificials::sum_of_artificials;
 pub use engine::Engine;
 pub use halt::{Halt, Moved, Pauses};
 pub use laws::runs_are_determined;

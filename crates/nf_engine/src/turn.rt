@@ -1,5 +1,5 @@
 // What is due in a state: a change of it, or none, since it has ended.
-ghost use Rattle.std.specs.Prelude.{◌≡◌, ℕ, suc, ◌+◌, ◌*◌, ◌<◌, ◌≤◌, length, IfOk, IfErr};
+ghost use Rattle.std.specs.Prelude.{◌≡◌, ℕ, suc, true, false, ◌+◌, ◌*◌, ◌<◌, ◌≤◌, length, IfOk, IfErr};
 ghost use Rattle.nf_sums.specs.Terms.{PassesIn};
 ghost use Rattle.nf_simplex.specs.Size.{size};
 ghost use Rattle.nf_simplex.specs.Moves.{CanEnterIn};
@@ -46,7 +46,7 @@ pub(crate) struct Finding {
 }
 
 // Prices the columns, and tests the ratios of the one that the rule picks. If a change is due, and is to be made, the
-// queue becomes the next one.
+// queue becomes the next one. `met` may say that the artificials are known to sum to 0.
 pub(crate) fn look<B: Basis, L: Ledger>(
     p: &Problem,
     basis: &mut B,
@@ -54,6 +54,7 @@ pub(crate) fn look<B: Basis, L: Ledger>(
     cursor: u32,
     queue: &mut Queue,
     moves: bool,
+    met: bool,
     room: &mut Room,
     steps: &mut Steps<L>,
 ) -> Result<Finding, Passed>
@@ -61,6 +62,7 @@ pub(crate) fn look<B: Basis, L: Ledger>(
     requires feasible { IsFeasibleState p.now (B.standing basis.old) }
     requires room { room.old ≡ rows_of p.now (B.standing basis.old) }
     requires size { HasSize rule }
+    requires met { met ≡ true → TellsShort p.now (B.standing basis.old) false }
     ensures numbers { IfOk result (λ _. B.HasNumbers p.now basis.new) }
     ensures standing { IfOk result (λ _. B.standing basis.new ≡ B.standing basis.old) }
     ensures slots { IfOk result (λ _. B.slots basis.new ≡ B.slots basis.old) }
@@ -73,7 +75,7 @@ pub(crate) fn look<B: Basis, L: Ledger>(
 {
     basis.duals(p, Phase::One, room.one.as_mut_slice(), steps)?;
     basis.duals(p, Phase::Two, room.two.as_mut_slice(), steps)?;
-    let short = is_short(p, basis, steps)?;
+    let short = is_short(p, basis, met);
     let picked = choose(
         p,
         basis.state(),

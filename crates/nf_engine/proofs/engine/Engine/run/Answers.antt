@@ -7,7 +7,7 @@ use Rattle.nf_engine.proofs.RunFacts.{passes_later}
 use Rattle.nf_engine.proofs.engine.Engine.run.Goals as goal
 
 pub turns-init : goal.turns-init
-turns-init g c = record { numbers = c.requires.numbers; feasible = c.requires.feasible; room = c.requires.room; goes = here }
+turns-init g c = record { numbers = c.requires.numbers; feasible = c.requires.feasible; room = c.requires.room; met = λ e. absurd cc; goes = here }
 
 pub returns-in_err-halt-clause-passed : goal.returns-in_err-halt-clause-passed
 returns-in_err-halt-clause-passed g c =
@@ -19,6 +19,7 @@ turns-preserved g c = record {
   numbers = c.in_ok-halt.ensures.numbers;
   feasible = c.in_ok-halt.ensures.feasible;
   room = c.in_ok-halt.ensures.room;
+  met = c.in_ok-halt.ensures.met;
   goes = further (point g.B.Basis.standing c.turns.self) (point g.B.Basis.standing c.turn.new.self) c.turns.invariant.goes
       (subst (λ h. IsTurnTo c.args.p.now c.args.rule c.args.most c.args.pauses.now (point g.B.Basis.standing c.turns.self) h (point g.B.Basis.standing c.turn.new.self)) c.in_default.is c.in_ok-halt.ensures.turn);
 }

@@ -1,5 +1,6 @@
-use Rattle.std.proofs.Common.{◌≡◌, ◌-◌}
+use Rattle.std.proofs.Common.{◌≡◌, ◌-◌, true, false}
 use Rattle.nf_simplex.specs.Standing.{IsFeasibleState, rows_of}
+use Rattle.nf_price.specs.Choice.{TellsShort}
 use Rattle.nf_engine.specs.Point.{point}
 use Rattle.nf_engine.specs.Run.{GoesOn}
 use Rattle.nf_engine.proofs.engine.Engine.run.Given as goal
@@ -9,6 +10,7 @@ invariant-turns g l = record {
   numbers : g.B.Basis.HasNumbers l.p l.self.basis;
   feasible : IsFeasibleState l.p (g.B.Basis.standing l.self.basis);
   room : l.self.room ≡ rows_of l.p (g.B.Basis.standing l.self.basis);
+  met : l.met ≡ true → TellsShort l.p (g.B.Basis.standing l.self.basis) false;
   goes : GoesOn l.p l.rule l.most l.pauses (point g.B.Basis.standing l.fn.self) (point g.B.Basis.standing l.self);
 }
 

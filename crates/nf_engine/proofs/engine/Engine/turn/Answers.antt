@@ -1,4 +1,4 @@
-use Rattle.std.proofs.Common.{◌≡◌, ◌<◌, ◌≤◌, ◌∙◌, ap, subst, subst₂, sym, refl, rules}
+use Rattle.std.proofs.Common.{◌≡◌, ◌<◌, ◌≤◌, ◌∙◌, false, ap, subst, subst₂, sym, refl, rules}
 use Rattle.nf_sums.specs.Terms.{PassesIn}
 use Rattle.nf_sums.proofs.Up.{handed_on}
 use Rattle.nf_basis.specs.Arising.{StateTerms}
@@ -10,7 +10,8 @@ use Rattle.nf_engine.specs.Run.{Halts, IsHaltDue}
 use Rattle.nf_engine.specs.Run.Halts.{ended}
 use Rattle.nf_engine.specs.Steps.{HasEnded, IsTurn, StepsBy}
 use Rattle.nf_engine.proofs.StepFacts.{at_point, change_same, due_same, ended_same, left_ended, left_stays, point_same, pricing_same}
-use Rattle.nf_engine.proofs.RunFacts.{limit_due, passes_here, passes_next, stepped}
+use Rattle.nf_engine.proofs.RunFacts.{limit_due, passes_here, stepped}
+use Rattle.nf_engine.proofs.SumFacts.{still_met}
 use Rattle.nf_engine.proofs.engine.Engine.turn.Goals as goal
 
 pub returns-in_err-due-clause-passed : goal.returns-in_err-due-clause-passed
@@ -67,27 +68,8 @@ returns-in_err-make-in-Changes-clause-passed g c =
     handed_on c.from_residual-in_err-make-in-Changes.result e _ c.from_residual-in_err-make-in-Changes.ensures.1
     (passes_here c.args.p.now c.args.rule c.args.most c.args.pauses.now (point g.B.Basis.standing old) c.make.new.self.pivots e (pivots ∙ sym c.in_err-make-in-Changes.ensures.count) (subst (λ s. PassesIn (StateTerms c.args.p.now s) e) (c.in_ok-due.ensures.standing ∙ ap g.B.Basis.standing basis) c.in_err-make-in-Changes.ensures.passed))
 
-pub returns-in_err-halt-in-Changes-clause-passed : goal.returns-in_err-halt-in-Changes-clause-passed
-returns-in_err-halt-in-Changes-clause-passed g c =
-    let p = c.args.p.now in
-    let old = c.args.self.now in
-    let new = c.make.new.self in
-    let here = c.self.inside in
-    let basis : here.basis ≡ old.basis = search rules in
-    let pivots : here.pivots ≡ old.pivots = search rules in
-    let cursor : pricing here.cursor here.queue ≡ old.pricing = search rules in
-    let same : at_point (g.B.Basis.standing c.look.new.basis) here.pivots (pricing here.cursor here.queue) ≡ point g.B.Basis.standing old =
-    point_same _ _ _ _ _ _ (c.in_ok-due.ensures.standing ∙ ap g.B.Basis.standing basis) pivots cursor in
-    let made = c.in_ok-make-in-Changes.ensures.made c.args.rule (pricing here.cursor here.queue) (due_same p c.args.rule (g.B.Basis.standing here.basis) (g.B.Basis.standing c.look.new.basis) (pricing here.cursor here.queue) (g.B.Basis.slots here.basis) (g.B.Basis.slots c.look.new.basis) c.in_ok-due.due.turn c.in-Changes.change c.may_move-moves.result (pricing here.cursor c.look.new.queue) c.in_ok-due.ensures.standing c.in_ok-due.ensures.slots c.in-Changes.is c.if-not-moves.false c.in_ok-due.ensures.turn c.in_ok-due.ensures.left) in
-    let step : StepsBy p c.args.rule (point g.B.Basis.standing old) made.0 (point g.B.Basis.standing new) = subst (λ a. StepsBy p c.args.rule a made.0 (point g.B.Basis.standing new)) same made.1 in
-    let fresh : c.self-in-Changes.inside.basis ≡ new.basis = search rules in
-    let below : here.pivots < c.args.most = c.may_move-moves.ensures.yes c.if-not-moves.false in
-    let e = c.in_err-halt-in-Changes.field-0.0 in
-    handed_on c.from_residual-in_err-halt-in-Changes.result e _ c.from_residual-in_err-halt-in-Changes.ensures.1
-    (passes_next p c.args.rule c.args.most c.args.pauses.now (point g.B.Basis.standing old) (point g.B.Basis.standing new) made.0 new.pivots e (subst (λ n. n < c.args.most) pivots below) step refl (subst (λ b. PassesIn (StateTerms p (g.B.Basis.standing b)) e) fresh c.in_err-halt-in-Changes.ensures.passed))
-
-pub returns-in_ok-halt-in-Changes-clause-turn : goal.returns-in_ok-halt-in-Changes-clause-turn
-returns-in_ok-halt-in-Changes-clause-turn g c =
+pub returns-in_ok-make-in-Changes-clause-turn : goal.returns-in_ok-make-in-Changes-clause-turn
+returns-in_ok-make-in-Changes-clause-turn g c =
     let p = c.args.p.now in
     let old = c.args.self.now in
     let new = c.make.new.self in
@@ -102,6 +84,36 @@ returns-in_ok-halt-in-Changes-clause-turn g c =
     let fresh : c.self-in-Changes.inside.basis ≡ new.basis = search rules in
     let count : c.self-in-Changes.inside.pivots ≡ new.pivots = search rules in
     let below : here.pivots < c.args.most = c.may_move-moves.ensures.yes c.if-not-moves.false in
-    stepped p c.args.rule c.args.most c.args.pauses.now (point g.B.Basis.standing old) (point g.B.Basis.standing new) made.0 c.in_ok-due.due.short c.in_ok-halt-in-Changes.halt c.requires.feasible.feasible.basis step.moves.feasible.feasible.basis
+    stepped p c.args.rule c.args.most c.args.pauses.now (point g.B.Basis.standing old) (point g.B.Basis.standing new) made.0 c.in_ok-due.due.short c.halt_due-halt.result c.requires.feasible.feasible.basis step.moves.feasible.feasible.basis
     (subst (λ n. n < c.args.most) pivots below) step (subst (λ b. TellsShort p (g.B.Basis.standing b) c.in_ok-due.due.short) basis c.in_ok-due.ensures.short)
-    (subst₂ (λ b n. IsHaltDue p c.args.pauses.now c.in_ok-due.due.short n (g.B.Basis.standing b) c.in_ok-halt-in-Changes.halt) fresh count c.in_ok-halt-in-Changes.ensures.due)
+    (subst₂ (λ b n. IsHaltDue p c.args.pauses.now c.in_ok-due.due.short n (g.B.Basis.standing b) c.halt_due-halt.result) fresh count c.halt_due-halt.ensures.due)
+
+pub look-requires-clause-met : goal.look-requires-clause-met
+look-requires-clause-met g c e =
+    let basis : c.self.inside.basis ≡ c.args.self.now.basis = search rules in
+    subst (λ b. TellsShort c.args.p.now (g.B.Basis.standing b) false) (sym basis) (c.requires.met e)
+
+pub returns-then-not-moves-clause-met : goal.returns-then-not-moves-clause-met
+returns-then-not-moves-clause-met g c e =
+    let basis : c.self.inside.basis ≡ c.args.self.now.basis = search rules in
+    subst (λ s. TellsShort c.args.p.now s false) (sym (c.in_ok-due.ensures.standing ∙ ap g.B.Basis.standing basis)) (c.requires.met e)
+
+pub returns-in-Ended-clause-met : goal.returns-in-Ended-clause-met
+returns-in-Ended-clause-met g c e =
+    let basis : c.self.inside.basis ≡ c.args.self.now.basis = search rules in
+    subst (λ s. TellsShort c.args.p.now s false) (sym (c.in_ok-due.ensures.standing ∙ ap g.B.Basis.standing basis)) (c.requires.met e)
+
+pub returns-in_ok-make-in-Changes-clause-met : goal.returns-in_ok-make-in-Changes-clause-met
+returns-in_ok-make-in-Changes-clause-met g c e =
+    let p = c.args.p.now in
+    let old = c.args.self.now in
+    let new = c.make.new.self in
+    let here = c.self.inside in
+    let basis : here.basis ≡ old.basis = search rules in
+    let pivots : here.pivots ≡ old.pivots = search rules in
+    let cursor : pricing here.cursor here.queue ≡ old.pricing = search rules in
+    let same : at_point (g.B.Basis.standing c.look.new.basis) here.pivots (pricing here.cursor here.queue) ≡ point g.B.Basis.standing old =
+    point_same _ _ _ _ _ _ (c.in_ok-due.ensures.standing ∙ ap g.B.Basis.standing basis) pivots cursor in
+    let made = c.in_ok-make-in-Changes.ensures.made c.args.rule (pricing here.cursor here.queue) (due_same p c.args.rule (g.B.Basis.standing here.basis) (g.B.Basis.standing c.look.new.basis) (pricing here.cursor here.queue) (g.B.Basis.slots here.basis) (g.B.Basis.slots c.look.new.basis) c.in_ok-due.due.turn c.in-Changes.change c.may_move-moves.result (pricing here.cursor c.look.new.queue) c.in_ok-due.ensures.standing c.in_ok-due.ensures.slots c.in-Changes.is c.if-not-moves.false c.in_ok-due.ensures.turn c.in_ok-due.ensures.left) in
+    let step : StepsBy p c.args.rule (point g.B.Basis.standing old) made.0 (point g.B.Basis.standing new) = subst (λ a. StepsBy p c.args.rule a made.0 (point g.B.Basis.standing new)) same made.1 in
+    still_met p (g.B.Basis.standing old.basis) (g.B.Basis.standing new.basis) (g.met.B.Basis.sound p old.basis c.requires.numbers).problem c.requires.feasible step.moves.feasible step.moves.lower c.in_ok-due.due.short e (subst (λ b. TellsShort p (g.B.Basis.standing b) c.in_ok-due.due.short) basis c.in_ok-due.ensures.short)
