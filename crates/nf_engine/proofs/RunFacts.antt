@@ -74,9 +74,6 @@ module _ (p : LinearProgram) (rule : Rule) (most : ℕ) (pauses : Pauses) where
   pub nearer : (a b : Point) → GoesOnTo p rule most pauses a b → most - b.pivots < most - a.pivots
   nearer a b x = let h = x.below in let e = x.step.counted in omega (arith, h, e)
 
-  -- What passes in the state itself, or behind a step.
+  -- What passes in the state itself.
   pub passes_here : (a : Point) (n : ℕ) (e : Passed) → a.pivots ≡ n → PassesIn (StateTerms p a.standing) e → PassesAt p rule most pauses a n e
   passes_here a n e same h = record { at = a; comes = there a on_here; count = same; passes = h }
-
-  pub passes_next : (a b : Point) (c : Col) (n : ℕ) (e : Passed) → a.pivots < most → StepsBy p rule a c b → b.pivots ≡ n → PassesIn (StateTerms p b.standing) e → PassesAt p rule most pauses a n e
-  passes_next a b c n e below step same h = record { at = b; comes = behind c a b on_here below step; count = same; passes = h }
