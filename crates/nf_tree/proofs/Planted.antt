@@ -23,8 +23,16 @@ use Rattle.nf_tree.specs.Network.{IsNetwork}
 use Rattle.nf_tree.specs.Vertices.{tail_at, head_at, link_name}
 use Rattle.nf_tree.specs.Links.{AreEndsOf, HasSpan, IsTreeOf, SpansKeys, pred_in}
 use Rattle.nf_tree.proofs.Connected.{tree_of_basis}
-use Rattle.nf_tree.proofs.Vertices.{is_network}
+use Rattle.nf_tree.proofs.Vertices.{is_network, slots_inside}
 use Rattle.nf_tree.proofs.Slotted.{rows_are}
+
+-- The ends of keys are vertices.
+module _ (p : LinearProgram) (s : Standing) (ok : IsProblem p) (one : s.stage ≡ StageOne) (keys : List Col) (present : (q : ℕ) → q < p.nodes → IsPresent p s (in_slot keys q)) (tails heads names : List ℕ) (e : AreEndsOf p s keys p.nodes tails heads names) where
+  pub tail_there : (q : ℕ) → q < p.nodes → get_or tails q 0 ≤ p.nodes
+  tail_there q h = subst (λ v. v ≤ p.nodes) (sym (e.tail q h)) ((is_network p s ok one).tail_within (slot_number p keys q) (slots_inside p s ok keys present q h))
+
+  pub head_there : (q : ℕ) → q < p.nodes → get_or heads q 0 ≤ p.nodes
+  head_there q h = subst (λ v. v ≤ p.nodes) (sym (e.head q h)) ((is_network p s ok one).head_within (slot_number p keys q) (slots_inside p s ok keys present q h))
 
 -- The columns of a basis join all vertices.
 pub joined_of_basis : (p : LinearProgram) (s : Standing) (slots keys : List Col) (tails heads names : List ℕ) → IsProblem p → s.stage ≡ StageOne → IsBasisOf p s → ListBasics p s slots

@@ -33,7 +33,7 @@ use Rattle.nf_basis.proofs.Inverse.{slots_are}
 use Rattle.nf_links.specs.Map.{LinkMap}
 use Rattle.nf_tree.specs.Network.{IsNetwork, IsRooted, ArePotentials, turn}
 use Rattle.nf_tree.specs.Vertices.{tail_of, head_of, tail_at, head_at}
-use Rattle.nf_tree.specs.Links.{ArePricesOf, GiveBetween, IsTreeOf, pred_in}
+use Rattle.nf_tree.specs.Links.{AreEndsOf, ArePricesOf, GiveBetween, IsTreeOf, pred_in}
 use Rattle.nf_tree.proofs.RootedTrees.{unit_shift, potential, potentials, potentials_are_duals, tree_independent}
 use Rattle.nf_tree.proofs.Vertices.{is_network}
 use Rattle.nf_simplex.proofs.Numbered.{number_within}
@@ -205,3 +205,11 @@ tree_placed p s j a slots order m h =
       thread = h.thread;
       sizes = h.sizes;
     }
+
+-- and the same ends of columns.
+pub ends_stay : (p : LinearProgram) (s : Standing) (j : ℕ) (a : model.Place) (keys : List Col) (n : ℕ) (tails heads names : List ℕ) → AreEndsOf p s keys n tails heads names → AreEndsOf p (with_place s j a) keys n tails heads names
+ends_stay p s j a keys n tails heads names e = record {
+  tail = λ q h. e.tail q h ∙ tail_placed p s j a (column_in p (slot_number p keys q));
+  head = λ q h. e.head q h ∙ head_placed p s j a (column_in p (slot_number p keys q));
+  name = e.name;
+}

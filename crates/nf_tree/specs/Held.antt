@@ -1,5 +1,5 @@
--- What a tree keeps: a state of stage one that is a basis, the basic columns in slots with their values, their links, and
--- the duals of both phases.
+-- What a tree keeps: a state of stage one that is a basis, the basic columns in slots with their values, their links,
+-- the ends of the columns and the duals of both phases.
 -- Its `HasNumbers` is `HoldsTree`.
 use Rattle.std.specs.Prelude.{◌≡◌, ℕ, ◌+◌, ◌*◌, ◌<◌, length}
 use Rattle.nf_model.specs.Program.{LinearProgram}
@@ -12,7 +12,7 @@ use Rattle.nf_basis.specs.Dense.{HasBasics}
 use Rattle.nf_tree.specs.declared.tree.Tree.{Tree}
 use Rattle.nf_basis.specs.declared.col.Phase.TheVariants.{One, Two}
 use Rattle.nf_tree.specs.Duals.{KeepsDuals}
-use Rattle.nf_tree.specs.Links.{AreZeros, HasSpan, IsTreeOf}
+use Rattle.nf_tree.specs.Links.{AreEndsOf, AreZeros, HasSpan, IsTreeOf}
 
 -- There is room for a tree over n nodes, for a column, and for a path, whose weights are 0 between calls.
 pub record HasRoom (n : ℕ) (b : Tree) : Type 0 where
@@ -28,6 +28,7 @@ pub record HoldsTree (p : LinearProgram) (b : Tree) : Type 0 where
   pub stage : b.state.standing.stage ≡ StageOne
   pub held : HasBasics p b.state.standing b.slots.items b.values.items
   pub tree : IsTreeOf p b.state.standing b.slots.items b.span.grove.order.items b.span.grove.links
+  pub ends : AreEndsOf p b.state.standing b.slots.items p.nodes b.span.tails.items b.span.heads.items b.span.names.items
   pub one : KeepsDuals p b.state.standing One b.one
   pub two : KeepsDuals p b.state.standing Two b.two
   pub room : HasRoom p.nodes b
@@ -40,6 +41,7 @@ pub record IsPlanted (p : LinearProgram) (b : Tree) : Type 0 where
   pub listed : ListBasics p b.state.standing b.slots.items
   pub tree : IsTreeOf p b.state.standing b.slots.items b.span.grove.order.items b.span.grove.links
   pub values : length b.values.items ≡ p.nodes
+  pub ends : AreEndsOf p b.state.standing b.slots.items p.nodes b.span.tails.items b.span.heads.items b.span.names.items
   pub one : KeepsDuals p b.state.standing One b.one
   pub two : KeepsDuals p b.state.standing Two b.two
   pub room : HasRoom p.nodes b

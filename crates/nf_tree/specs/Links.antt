@@ -48,6 +48,7 @@ pub record HasSpan (n : ℕ) (a : Span) : Type 0 where
   pub tails : length a.tails.items ≡ n
   pub heads : length a.heads.items ≡ n
   pub names : length a.names.items ≡ n
+  pub spare : length a.spare.items ≡ n
   pub out : HasEnds n a.out
   pub into : HasEnds n a.into
   pub lists : HasLists n a.grove

@@ -104,7 +104,7 @@ impl Tree {
         ensures planted { IsTrue result → IsPlanted p.now self.new }
         ensures joined { IsBasisOf p.now self.old.state.standing → IsTrue result }
         ensures state { self.new.state ≡ self.old.state }
-        ensures cost { steps.new ≤ steps.old + 32 * suc p.now.nodes }
+        ensures cost { steps.new ≤ steps.old + 33 * suc p.now.nodes }
     {
         if !self
             .span
@@ -117,6 +117,8 @@ impl Tree {
             self.span.grove.key.as_slice(),
             &mut self.slots,
         );
+        let (keys, slots) = (self.keys.as_slice(), self.slots.as_slice());
+        self.span.follow(p, &self.state, keys, slots, steps);
         true
     }
 

@@ -13,7 +13,7 @@ ghost use Rattle.nf_basis.specs.Dense.{HasBasics};
 ghost use Rattle.nf_basis.specs.Duals.{after_pivot};
 ghost use Rattle.nf_tree.specs.Duals.{KeepsDuals};
 ghost use Rattle.nf_tree.specs.Held.{HasRoom, HoldsTree, KeepsAllButDuals};
-ghost use Rattle.nf_tree.specs.Links.{IsTreeOf};
+ghost use Rattle.nf_tree.specs.Links.{AreEndsOf, IsTreeOf};
 
 use crate::duals::Duals;
 use crate::ends::{column_in, head_of, tail_of};
@@ -105,10 +105,11 @@ impl Tree {
         requires held { HasBasics p.now self.old.state.standing self.old.slots.items self.old.values.items }
         requires one { KeepsDuals p.now self.old.state.standing Phase.One self.old.one }
         requires two { KeepsDuals p.now self.old.state.standing Phase.Two self.old.two }
+        requires ends { AreEndsOf p.now self.old.state.standing self.old.slots.items p.now.nodes self.old.span.tails.items self.old.span.heads.items self.old.span.names.items }
         requires room { HasRoom p.now.nodes self.old }
         ensures numbers { HoldsTree p.now self.new }
         ensures state { self.new.state ≡ self.old.state }
-        ensures cost { steps.new ≤ steps.old + 32 * suc p.now.nodes }
+        ensures cost { steps.new ≤ steps.old + 33 * suc p.now.nodes }
     {
         copy(
             self.slots.as_slice(),
@@ -118,10 +119,12 @@ impl Tree {
         );
         let _joined = self
             .span
-            .rebuild(p, &self.state, self.keys.as_slice(), steps);
+            .regrow(p, &self.state, self.keys.as_slice(), steps);
         let key = self.span.grove.key.as_slice();
         arrange(self.keys.as_slice(), key, &mut self.slots);
         arrange_numbers(self.work.as_slice(), key, &mut self.values);
+        let (keys, slots) = (self.keys.as_slice(), self.slots.as_slice());
+        self.span.follow(p, &self.state, keys, slots, steps);
     }
 
     // The inverse column of a row, which counts from 1: the path from its node to the root.
@@ -411,6 +414,8 @@ impl Basis for Tree {
         )?;
         self.shift_duals(p, entering, at, steps)?;
         let leaving = self.slots[at];
+        self.span
+            .put(p, &self.state, self.slots.as_slice(), at, entering);
         self.state.set_place(p, entering, Place::Basic);
         self.state.set_place(p, leaving, to);
         self.slots[at] = entering;

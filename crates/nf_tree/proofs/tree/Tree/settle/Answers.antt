@@ -44,6 +44,7 @@ returns-clause-numbers g c =
       stage = h.stage;
       held = subst (HasBasics p s b.slots.items) (sym (with_items_is c.rests_at_bounds.new.out xs len)) (slots_settled p s b.slots.items h.state.problem h.stage h.state.fits h.basis h.listed c.as_mut_slice.result.now are xs long gives);
       tree = h.tree;
+      ends = h.ends;
       one = h.one;
       two = h.two;
       room = record { span = h.room.span; keys = h.room.keys; work = h.room.work; weights = h.room.weights; trail = h.room.trail };

@@ -11,9 +11,9 @@ use Rattle.nf_basis.specs.Dense.{HasBasics}
 use Rattle.nf_simplex.proofs.Moving.{has_place}
 use Rattle.nf_basis.specs.declared.col.Phase.TheVariants.{One, Two}
 use Rattle.nf_tree.specs.Duals.{KeepsDuals}
-use Rattle.nf_tree.specs.Links.{IsTreeOf}
+use Rattle.nf_tree.specs.Links.{AreEndsOf, IsTreeOf}
 use Rattle.nf_tree.proofs.Moved.{kept_by_flip}
-use Rattle.nf_tree.proofs.Slotted.{rows_are, tree_placed}
+use Rattle.nf_tree.proofs.Slotted.{ends_stay, rows_are, tree_placed}
 use Rattle.nf_tree.proofs.tree.TreeBasis.flip.Goals as goal
 
 pub set_place-requires-clause-place : goal.set_place-requires-clause-place
@@ -50,6 +50,7 @@ returns-clause-numbers g c =
       stage = ap (λ t. t.stage) same ∙ h.stage;
       held = subst (λ t. HasBasics p t b.slots.items final) (sym same) (subst (λ xs. HasBasics p (flipped p s (col_of c.args.entering)) b.slots.items xs) back shifted);
       tree = subst (λ t. IsTreeOf p t b.slots.items b.span.grove.order.items b.span.grove.links) (sym same) (tree_placed p s (number p c.args.entering) (other_bound (place_of p s (col_of c.args.entering))) b.slots.items b.span.grove.order.items b.span.grove.links h.tree);
+      ends = subst (λ t. AreEndsOf p t b.slots.items p.nodes b.span.tails.items b.span.heads.items b.span.names.items) (sym same) (ends_stay p s (number p c.args.entering) (other_bound (place_of p s (col_of c.args.entering))) b.slots.items p.nodes _ _ _ h.ends);
       one = subst (λ t. KeepsDuals p t One b.one) (sym same) (kept_by_flip p s c.args.entering One b.one has c.requires.entering.nonbasic.1 h.one);
       two = subst (λ t. KeepsDuals p t Two b.two) (sym same) (kept_by_flip p s c.args.entering Two b.two has c.requires.entering.nonbasic.1 h.two);
       room = record { span = h.room.span; keys = h.room.keys; work = sym (length_refill b.work.len b.work.items c.shift.new.work len) ∙ (len ∙ h.room.work); weights = h.room.weights; trail = h.room.trail };
