@@ -1,9 +1,11 @@
 -- The trail of a path: the slots that have a weight, written down one by one and wiped again.
-use Rattle.std.proofs.Common.{◌≡◌, ◌≢◌, ◌⊎◌, inl, inr, refl, ℕ, zero, suc, ◌<◌, ◌≤◌, List, length, set, slice_index, sym, ap, ◌∙◌, subst, arith}
+use Rattle.std.proofs.Common.{◌≡◌, ◌≢◌, ◌⊎◌, inl, inr, refl, ℕ, zero, suc, ◌<◌, ◌≤◌, List, length, set, slice_index, cond, sym, ap, ap₂, ◌∙◌, subst, arith}
+use Rattle.std.specs.Prelude.{◌==◌}
 use Rattle.std.proofs.lemmas.List.{get_or-set_same, get_or-set_other}
-use Rattle.nf_num.specs.Rational.{ℚ, zero_ℚ}
+use Rattle.nf_num.specs.Rational.{ℚ, zero_ℚ, one_ℚ, neg_ℚ}
 use Rattle.nf_model.specs.Program.{at}
 use Rattle.nf_simplex.proofs.Sum.{equal_or_not}
+use Rattle.nf_tree.specs.Network.{turn}
 use Rattle.nf_tree.specs.Links.{AreSlotsOf, ListsWeights}
 use Rattle.nf_tree.proofs.Connected.{zero_or_not}
 
@@ -51,3 +53,8 @@ none_left trail count out listed w = of (zero_or_not (at out w))
 pub some_node : (u : ℕ) → u ≢ 0 → 0 < u
 some_node zero ne = absurd (ne refl)
 some_node (suc i) ne = omega arith
+
+-- The turn of a column, read off its tail.
+pub turn_read : (tail arc : ℕ → ℕ) (i t v : ℕ) → t ≡ tail (arc i) → v ≡ suc i → cond (t == v) one_ℚ (neg_ℚ one_ℚ) ≡ turn tail arc i
+unfolding turn
+turn_read tail arc i t v e f = ap₂ (λ a b. cond (a == b) one_ℚ (neg_ℚ one_ℚ)) e f

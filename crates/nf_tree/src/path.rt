@@ -1,6 +1,6 @@
 // Paths in a tree: the weights of its columns along the path between two vertices.
-ghost use Rattle.std.specs.Prelude.{◌≡◌, ◌≢◌, ℕ, suc, ◌+◌, ◌-◌, ◌*◌, ◌^◌, ◌<◌, ◌≤◌, length, set, slice_index, Bool};
-ghost use Rattle.nf_num.specs.Rational.{zero_ℚ};
+ghost use Rattle.std.specs.Prelude.{◌≡◌, ◌≢◌, ℕ, suc, ◌+◌, ◌-◌, ◌*◌, ◌^◌, ◌<◌, ◌≤◌, length, set, slice_index, Bool, cond, ◌==◌};
+ghost use Rattle.nf_num.specs.Rational.{neg_ℚ, one_ℚ, zero_ℚ};
 ghost use Rattle.nf_model.specs.Program.{at};
 ghost use Rattle.nf_sums.specs.Terms.{with_sign};
 ghost use Rattle.nf_simplex.specs.StageOf.{StageOne};
@@ -61,12 +61,46 @@ fn pass<L: Ledger>(
     links.get(Field::Pred, node, steps)
 }
 
+// The same on the way up, where the tails of the columns in the slots are known.
+fn rise<L: Ledger>(
+    p: &Problem,
+    state: &State,
+    slots: &[Col],
+    tails: &[usize],
+    links: &Links,
+    node: u32,
+    out: &mut [Frac],
+    steps: &mut Steps<L>,
+) -> u32
+    requires node { (0 < node) × (node ≤ p.now.nodes) }
+    requires many { length tails.now ≡ p.now.nodes }
+    requires tails { (i : ℕ) → i < p.now.nodes → slice_index tails.now i ≡ tail_at p.now state.now.standing (slot_number p.now slots.now i) }
+    requires links { length links.now.pred ≡ suc p.now.nodes }
+    requires places { length out.old ≡ p.now.nodes }
+    ensures out { out.new ≡ set out.old (node - 1) (turn (tail_at p.now state.now.standing) (slot_number p.now slots.now) (node - 1)) }
+    ensures before { result ≡ slice_index links.now.pred node }
+    ensures cost { steps.new ≡ steps.old + 1 }
+{
+    let slot = node as usize - 1;
+    out[slot] = turn_by(tails[slot], node as usize);
+    links.get(Field::Pred, node, steps)
+}
+
+// 1 for a column whose tail is its node, and else -1.
+fn turn_by(tail: usize, node: usize) -> Frac
+    ensures { result ≡ cond (tail == node) one_ℚ (neg_ℚ one_ℚ) }
+{
+    let one = Frac::from_whole(1);
+    if tail == node { one } else { one.neg() }
+}
+
 /// Writes the weights of a node's inverse column, those of the path from it to the root, into a list of zeros, and the
 /// slots of this path into `trail`. It returns how many they are.
 pub(crate) fn climb<L: Ledger>(
     p: &Problem,
     state: &State,
     slots: &[Col],
+    tails: &[usize],
     order: &[usize],
     links: &Links,
     from: u32,
@@ -79,6 +113,8 @@ pub(crate) fn climb<L: Ledger>(
     requires slots { length slots.now ≡ p.now.nodes }
     requires present { (k : ℕ) → k < p.now.nodes → IsPresent p.now state.now.standing (in_slot slots.now k) }
     requires tree { IsTreeOf p.now state.now.standing slots.now order.now links.now }
+    requires many { length tails.now ≡ p.now.nodes }
+    requires tails { (i : ℕ) → i < p.now.nodes → slice_index tails.now i ≡ tail_at p.now state.now.standing (slot_number p.now slots.now i) }
     requires from { from ≤ p.now.nodes }
     requires zeros { AreZeros p.now.nodes out.old }
     requires room { length trail.old ≡ p.now.nodes }
@@ -96,7 +132,7 @@ pub(crate) fn climb<L: Ledger>(
     while u != 0 {
         trail[count] = u as usize - 1;
         count += 1;
-        u = pass(p, state, slots, links, u, false, out, steps);
+        u = rise(p, state, slots, tails, links, u, out, steps);
     }
     count
 }

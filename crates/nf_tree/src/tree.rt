@@ -178,6 +178,7 @@ impl Tree {
             p,
             &self.state,
             self.slots.as_slice(),
+            self.span.tails.as_slice(),
             self.span.grove.order.as_slice(),
             &self.span.grove.links,
             row,

@@ -36,8 +36,8 @@ pub loop-u-smaller : goal.loop-u-smaller
 loop-u-smaller g c =
     let i = c.loop-u.invariant in
     let d = deeper c.args.p.now c.args.state.now.standing c.args.slots.now c.args.order.now c.args.links.now c.requires.tree c.loop-u.u (some_node c.loop-u.u c.loop-u-test.true) i.midway.from_within in
-    let e = ap (λ z. get_or c.args.links.now.depth z 0) c.pass-u.ensures.before in
-    let h : get_or c.args.links.now.depth c.pass-u.result 0 < get_or c.args.links.now.depth c.loop-u.u 0 = omega arith in
+    let e = ap (λ z. get_or c.args.links.now.depth z 0) c.rise-u.ensures.before in
+    let h : get_or c.args.links.now.depth c.rise-u.result 0 < get_or c.args.links.now.depth c.loop-u.u 0 = omega arith in
     h
 
 pub loop-u-preserved : goal.loop-u-preserved
@@ -49,21 +49,21 @@ loop-u-preserved g c =
     let n0 = some_node c.loop-u.u c.loop-u-test.true in
     let d = deeper p s c.args.slots.now c.args.order.now c.args.links.now c.requires.tree c.loop-u.u n0 i.midway.from_within in
     let m = depth_most p s c.args.slots.now c.args.order.now c.args.links.now c.requires.tree c.args.from c.requires.from in
-    let e = ap (λ z. get_or c.args.links.now.depth z 0) c.pass-u.ensures.before in
+    let e = ap (λ z. get_or c.args.links.now.depth z 0) c.rise-u.ensures.before in
     let root = c.requires.tree.rooted.root in
     let here : c.loop-u.u - 1 < p.nodes = (let x = i.midway.from_within in omega arith) in
     let room : c.loop-u.count < length c.loop-u.trail = (let x = i.count in let y = i.long in omega arith) in
     let next : c.loop-u.count + 1 ≡ suc c.loop-u.count = omega arith in
     record {
-      cost = (let x = i.cost in let w = c.pass-u.ensures.cost in omega arith);
+      cost = (let x = i.cost in let w = c.rise-u.ensures.cost in omega arith);
       count = (let x = i.count in omega arith);
-      midway = rw (c.pass-u.ensures.before, c.pass-u.ensures.out)
+      midway = rw (c.rise-u.ensures.before, c.rise-u.ensures.out)
           (goes_up p s c.args.slots.now c.args.order.now c.args.links.now (is_network p s ok c.requires.stage) c.requires.tree (slots_inside p s ok c.args.slots.now c.requires.present)
           c.args.from 0 c.loop-u.u 0 c.loop-u.out i.midway c.loop-u-test.true (omega arith) (c.loop-u.u - 1) (node_is c.loop-u.u n0));
       long = length-set c.loop-u.trail c.loop-u.count (c.loop-u.u - 1) ∙ i.long;
       short = (let x = i.count in omega arith);
       within = rw next (put_slot p.nodes c.loop-u.trail c.loop-u.count (c.loop-u.u - 1) room here i.within);
-      listed = rw (next, c.pass-u.ensures.out) (put c.loop-u.trail c.loop-u.count c.loop-u.out (c.loop-u.u - 1) _ room i.listed);
+      listed = rw (next, c.rise-u.ensures.out) (put c.loop-u.trail c.loop-u.count c.loop-u.out (c.loop-u.u - 1) _ room i.listed);
     }
 
 pub returns-clause-gives : goal.returns-clause-gives

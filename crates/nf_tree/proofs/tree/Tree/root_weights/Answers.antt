@@ -16,5 +16,5 @@ returns-clause-weights g c =
     record {
       weights = found.weights;
       are_weights = found.are_weights;
-      by_slot = λ k m. c.pick.ensures k m ∙ (ap (λ ys. at ys (slice_index_or c.args.chosen.now k 0)) (c.as_slice-3.ensures.value ∙ with_items_is b.weights xs len) ∙ found.by_slot (slice_index_or c.args.chosen.now k 0) (subst (λ n. slice_index_or c.args.chosen.now k 0 < n) (sym (rows_are p b.state.standing h.stage)) (c.requires.chosen.within k m)));
+      by_slot = λ k m. c.pick.ensures k m ∙ (ap (λ ys. at ys (slice_index_or c.args.chosen.now k 0)) (c.as_slice-4.ensures.value ∙ with_items_is b.weights xs len) ∙ found.by_slot (slice_index_or c.args.chosen.now k 0) (subst (λ n. slice_index_or c.args.chosen.now k 0 < n) (sym (rows_are p b.state.standing h.stage)) (c.requires.chosen.within k m)));
     }
