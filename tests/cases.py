@@ -10,7 +10,7 @@ import subprocess
 import tempfile
 
 DIRECTORY = object()
-USAGE = "USAGE netflow run | netflow check | netflow sample SEED NODES ARCS CONS"
+USAGE = "USAGE netflow run | netflow check | netflow sample SEED NODES ARCS CONS | netflow import | netflow export"
 
 
 def call(command, words, program, folder, out=subprocess.PIPE):

@@ -1,6 +1,7 @@
 //! `netflow check` reads a program on standard input and its data sets in the folder in which it was started, and
 //! accepts a certificate exactly where it proves what it claims. `netflow run` obeys the statements of such a program on
-//! its data. `netflow sample` makes a problem of any size from a seed, solves it and checks its certificate.
+//! its data. `netflow sample` makes a problem of any size from a seed, solves it and checks its certificate. `netflow import`
+//! stores the tables of a DIMACS text, and `netflow export` lists the DIMACS text of a program's problem.
 #![tactic(auto)]
 
 use nf_call::{Status, netflow};

@@ -6,7 +6,9 @@ use Rattle.nf_program.specs.declared.program.Command.TheVariants.{Run, Check, Ag
 use Rattle.nf_top.specs.declared.status.Status.{Status}
 use Rattle.nf_top.specs.declared.status.Status.TheVariants as status
 use Rattle.nf_top.specs.Words.{IsCommand}
-use Rattle.nf_command.specs.Words.{AsksSample}
+use Rattle.nf_command.specs.Words.{AsksPlain, AsksSample}
+use Rattle.nf_command.specs.declared.plain.PlainCommand.{PlainCommand}
+use Rattle.nf_command.specs.declared.plain.PlainCommand.TheVariants as plain
 use Rattle.nf_command.specs.declared.size.SampleSize.{SampleSize}
 use Rattle.nf_call.specs.Lines.{run_lines}
 use Rattle.nf_call.specs.Sample.{SampleEnds}
@@ -31,6 +33,13 @@ no_command Check n words asks h = let e : codes "check" ∷ [] ≡ codes "sample
 no_command Run n words asks h = let e : codes "run" ∷ [] ≡ codes "sample" ∷ asks.seed ∷ asks.nodes ∷ asks.arcs ∷ asks.cons ∷ [] = sym h ∙ asks.words_are in cc
 no_command Again n words asks h = h
 no_command Export n words asks h = h
+
+-- the words of `run` and `check` are the one word of a command
+pub plain_of : (d : Command) (words : List (List ℕ)) → IsCommand d words → (c : PlainCommand) × AsksPlain c words
+plain_of Run words h = (plain.Run, h)
+plain_of Check words h = (plain.Check, h)
+plain_of Again words h = absurd h
+plain_of Export words h = absurd h
 
 -- a sample does not end with the usage line
 pub no_usage : (n : SampleSize) (old new : Option (List ℕ)) (before after : ℕ) → SampleEnds n old new before after status.Usage → ⊥

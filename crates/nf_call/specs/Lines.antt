@@ -1,4 +1,5 @@
--- The texts of a sample: its programs, and the lines of its summary. What is listed of a sample rests on it.
+-- The texts of a sample: its programs, and the lines of its summary; and the usage line. What is listed of a sample and of words
+-- that are no command rests on it.
 use Rattle.std.specs.Prelude.{◌++◌, ◌-◌, ◌==◌, ℕ, zero, suc, List, codes, decimal, get_or, if◌then◌else◌, length, nat_eq, take}
 use Rattle.nf_top.specs.declared.status.Status.{Status}
 use Rattle.nf_top.specs.declared.status.Status.TheVariants as status
@@ -40,3 +41,7 @@ run_lines _ listed = listed
 abbrev pub check_lines : Status → List ℕ → List ℕ
 check_lines status.Finished listed = codes "CHECK ACCEPTED\n"
 check_lines _ listed = listed
+
+-- What the words may be.
+abbrev pub usage_line : List ℕ
+usage_line = codes "USAGE netflow run | netflow check | netflow sample SEED NODES ARCS CONS | netflow import | netflow export\n"

@@ -1,9 +1,22 @@
--- Which words ask for a sample. That the usage line comes exactly if the words are those of no command rests on it.
+-- Which words are a command, or ask for a sample. That the usage line comes exactly if the words are those of no command rests on it.
 use Rattle.std.specs.Prelude.{◌≡◌, ◌∷◌, ℕ, List, [], Some, codes}
 use Rattle.nf_text.specs.declared.token.TokenKind.TheVariants.{Number}
 use Rattle.nf_program.specs.ReadValues.{count_of}
 use Rattle.nf_sample.specs.Sample.{IsSize}
 use Rattle.nf_command.specs.declared.size.SampleSize.{SampleSize}
+use Rattle.nf_command.specs.declared.plain.PlainCommand.{PlainCommand}
+use Rattle.nf_command.specs.declared.plain.PlainCommand.TheVariants.{Run, Check, Import, Export}
+
+-- The word of a command.
+abbrev pub word_of : PlainCommand → List ℕ
+word_of Run = codes "run"
+word_of Check = codes "check"
+word_of Import = codes "import"
+word_of Export = codes "export"
+
+-- The words are the one word of this command.
+abbrev pub AsksPlain : PlainCommand → List (List ℕ) → Type 0
+AsksPlain c words = words ≡ word_of c ∷ []
 
 -- The word is this number: one to nine decimal digits, which may begin with zeros.
 abbrev pub IsNumber : ℕ → List ℕ → Type 0

@@ -1,0 +1,4 @@
+pub mod LineFacts
+pub mod SayFacts
+pub mod ReadFacts
+pub mod TableFacts

@@ -1,0 +1,11 @@
+pub mod ListFacts
+pub mod PlainFacts
+pub mod RoleFacts
+pub mod ShortFacts
+pub mod RowFacts
+pub mod FigureFacts
+pub mod SoundFacts
+pub mod SeenWeights
+pub mod NamedFacts
+pub mod FaultFacts
+pub mod ProblemFacts

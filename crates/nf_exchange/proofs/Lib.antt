@@ -1,0 +1,4 @@
+pub mod StopFacts
+pub mod EndFacts
+pub mod ImportFacts
+pub mod ExportFacts

@@ -1,0 +1,6 @@
+pub mod Lines
+pub mod Ending
+pub mod Import
+pub mod Export
+pub mod Steps
+pub mod Promises
