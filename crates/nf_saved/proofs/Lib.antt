@@ -1,0 +1,9 @@
+pub mod ListFacts
+pub mod EachFacts
+pub mod ValueFacts
+pub mod RowFacts
+pub mod PlaceFacts
+pub mod ColumnFacts
+pub mod MemberFacts
+pub mod ReadFacts
+pub mod BackFacts
